@@ -1,0 +1,56 @@
+-- Laws of truth values and of tests.
+use mathlib.Core.Path.{_≡_, refl, sym}
+use mathlib.Core.Bool.{Bool, true, false, _&&_, _||_}
+use mathlib.Core.Logic.{_⊎_, inl, inr}
+use Prim.Native.Nat.{ℕ, _≤_, _<_}
+use native.Mathlib.Omega.{arith}
+use native.Mathlib.Nat.{lt-of-not-le, not-le-of-lt}
+use lib.Dec.{leb, eqb}
+use borrow.Author.Tests.{leb-true, leb-false, le-leb, lt-leb, eqb-true, eqb-false}
+use Rattle.laws.specs.Basic.{bit}
+
+pub and-left : (a b : Bool) → a && b ≡ true → a ≡ true
+and-left true b e = refl
+and-left false b e = e
+
+pub and-right : (a b : Bool) → a && b ≡ true → b ≡ true
+and-right true b e = e
+and-right false b e = cc
+
+pub or-right : (a b : Bool) → a ≡ false → a || b ≡ b
+or-right true b e = cc
+or-right false b e = refl
+
+-- two tests that imply each other are equal
+pub both : (a b : Bool) → (a ≡ true → b ≡ true) → (b ≡ true → a ≡ true) → a ≡ b
+both true b f g = sym (f refl)
+both false true f g = g refl
+both false false f g = refl
+
+pub leb-same : (a b c d : ℕ) → (a ≤ b → c ≤ d) → (c ≤ d → a ≤ b) → leb a b ≡ leb c d
+leb-same a b c d f g = go (leb c d) refl
+  where
+    go : (t : Bool) → leb c d ≡ t → leb a b ≡ t
+    go true e = le-leb a b (g (leb-true c d e))
+    go false e = lt-leb a b (lt-of-not-le (λ h. not-le-of-lt (leb-false c d e) (f h)))
+
+-- a number is another or it is not
+pub same-or : (i j : ℕ) → (j ≡ i) ⊎ (j ≡ i → ⊥)
+same-or i j = go (eqb j i) refl
+  where
+    go : (b : Bool) → eqb j i ≡ b → (j ≡ i) ⊎ (j ≡ i → ⊥)
+    go true e = inl (eqb-true _ _ e)
+    go false e = inr (eqb-false _ _ e)
+
+-- a truth value as a number
+pub bit-le : (b : Bool) → bit b ≤ 1
+bit-le true = omega arith
+bit-le false = omega arith
+
+pub bit-one : (b : Bool) {x : ℕ} → x ≡ bit b → x ≡ 1 → b ≡ true
+bit-one true e h = refl
+bit-one false e h = let z : _≡_ {A = ℕ} 0 1 = cc in absurd (omega arith)
+
+pub bit-zero : (b : Bool) {x : ℕ} → x ≡ bit b → (x ≡ 1 → ⊥) → b ≡ false
+bit-zero true e h = absurd (h e)
+bit-zero false e h = refl

@@ -1,0 +1,163 @@
+-- Laws of lists: numbers in order, members, the members that pass a test, one member more at the end.
+use mathlib.Core.Path.{_≡_, refl, ap, sym, _∙_}
+use mathlib.Core.Bool.{Bool, true, false, _&&_}
+use mathlib.Core.Logic.{_⊎_, inl, inr}
+use mathlib.Core.Option.{Option, none, some}
+use mathlib.Core.List.{List, [], _∷_, _++_, map, head?, append-assoc, List·Memᴰ, List·Memᴰ·head, List·Memᴰ·tail, List·Memᴰ·not-nil}
+use Prim.Native.Nat.{ℕ, zero, suc, _+_, _-_, _≤_, _<_}
+use native.Mathlib.Omega.{arith}
+use native.Mathlib.Nat.{eq-or-lt-of-le, add-zero, sub-zero}
+use native.Mathlib.Numerals.{add-one}
+use lib.ListN.{length, getD, length-append}
+use Rattle.laws.specs.Basic.{if_then_else_, bit, from, all, keep}
+use Rattle.laws.specs.Booleans.{and-left, and-right}
+
+-- numbers in order
+pub length-from : (i n : ℕ) → length (from i n) ≡ n
+length-from i zero = refl
+length-from i (suc n) = ap suc (length-from (suc i) n)
+
+pub mem-from : (i n l : ℕ) → i ≤ l → l < i + n → List·Memᴰ l (from i n)
+mem-from i zero l h k = absurd (omega arith)
+mem-from i (suc n) l h k = go (mem-from (suc i) n l) (eq-or-lt-of-le h)
+  where
+    go : (suc i ≤ l → l < suc i + n → List·Memᴰ l (from (suc i) n)) → (i ≡ l) ⊎ (i < l) → List·Memᴰ l (from i (suc n))
+    go r (inl e) = List·Memᴰ·head (sym e)
+    go r (inr a) = List·Memᴰ·tail (r a (omega arith))
+
+pub from-mem : (i n l : ℕ) → List·Memᴰ l (from i n) → l < i + n
+from-mem i zero l m = absurd (List·Memᴰ·not-nil m)
+from-mem i (suc n) l (List·Memᴰ·head e) = omega arith
+from-mem i (suc n) l (List·Memᴰ·tail m) = omega (arith, from-mem (suc i) n l m)
+
+pub from-low : (i m j : ℕ) → List·Memᴰ j (from i m) → i ≤ j
+from-low i zero j h = absurd (List·Memᴰ·not-nil h)
+from-low i (suc m) j (List·Memᴰ·head e) = omega arith
+from-low i (suc m) j (List·Memᴰ·tail h) = omega (arith, from-low (suc i) m j h)
+
+-- maps
+pub map-map {ℓ κ μ} : {A : Type ℓ} {B : Type κ} {C : Type μ} (g : B → C) (f : A → B) (xs : List A) → map g (map f xs) ≡ map (λ x. g (f x)) xs
+map-map g f [] = refl
+map-map g f (x ∷ xs) = ap (λ ys. g (f x) ∷ ys) (map-map g f xs)
+
+pub map-same {ℓ κ} : {A : Type ℓ} {B : Type κ} (f g : A → B) (xs : List A) → ((x : A) → List·Memᴰ x xs → f x ≡ g x) → map f xs ≡ map g xs
+map-same f g [] h = refl
+map-same f g (x ∷ xs) h = cc (h x (List·Memᴰ·head refl), map-same f g xs (λ y m. h y (List·Memᴰ·tail m)))
+
+pub mem-map {ℓ κ} : {A : Type ℓ} {B : Type κ} (f : A → B) {x : A} {xs : List A} → List·Memᴰ x xs → List·Memᴰ (f x) (map f xs)
+mem-map f (List·Memᴰ·head e) = List·Memᴰ·head (ap f e)
+mem-map f (List·Memᴰ·tail m) = List·Memᴰ·tail (mem-map f m)
+
+pub map-mem {ℓ κ} : {A : Type ℓ} {B : Type κ} (f : A → B) {y : B} (xs : List A) → List·Memᴰ y (map f xs) → (x : A) × List·Memᴰ x xs × (y ≡ f x)
+map-mem f [] m = absurd (List·Memᴰ·not-nil m)
+map-mem f (x ∷ xs) (List·Memᴰ·head e) = (x, List·Memᴰ·head refl, e)
+map-mem f (x ∷ xs) (List·Memᴰ·tail m) = let (z, a, b) = map-mem f xs m in (z, List·Memᴰ·tail a, b)
+
+-- the members that pass a test
+module _ {ℓ} {A : Type ℓ} (test : A → Bool) where
+  pub mem-keep : {x : A} (xs : List A) → List·Memᴰ x xs → test x ≡ true → List·Memᴰ x (keep test xs)
+  mem-keep (y ∷ xs) (List·Memᴰ·head e) t = rw (ap test (sym e) ∙ t) (List·Memᴰ·head e)
+  mem-keep {x} (y ∷ xs) (List·Memᴰ·tail m) t = go (test y) (mem-keep xs m t)
+    where
+      go : (b : Bool) → List·Memᴰ x (keep test xs) → List·Memᴰ x (if b then (y ∷ keep test xs) else keep test xs)
+      go true k = List·Memᴰ·tail k
+      go false k = k
+
+  pub keep-mem : {x : A} (xs : List A) → List·Memᴰ x (keep test xs) → List·Memᴰ x xs × (test x ≡ true)
+  keep-mem [] m = absurd (List·Memᴰ·not-nil m)
+  keep-mem {x} (y ∷ xs) m = go (test y) refl m (keep-mem xs)
+    where
+      go : (b : Bool) → test y ≡ b → List·Memᴰ x (if b then (y ∷ keep test xs) else keep test xs) → (List·Memᴰ x (keep test xs) → List·Memᴰ x xs × (test x ≡ true)) → List·Memᴰ x (y ∷ xs) × (test x ≡ true)
+      go true e (List·Memᴰ·head a) r = (List·Memᴰ·head a, ap test a ∙ e)
+      go true e (List·Memᴰ·tail m) r = let (a, b) = r m in (List·Memᴰ·tail a, b)
+      go false e m r = let (a, b) = r m in (List·Memᴰ·tail a, b)
+
+  pub head-keep : {x : A} (xs : List A) → head? (keep test xs) ≡ some x → List·Memᴰ x xs × (test x ≡ true)
+  head-keep {x} xs e = go (keep test xs) refl e
+    where
+      go : (ys : List A) → keep test xs ≡ ys → head? ys ≡ some x → List·Memᴰ x xs × (test x ≡ true)
+      go [] f e = let z : _≡_ {A = ℕ} 0 1 = cc in absurd (omega arith)
+      go (y ∷ ys) f e = let z : x ≡ y = cc in keep-mem xs (rw f (List·Memᴰ·head z))
+
+  -- the first that passes
+  abbrev pub find : List A → Option A
+  find [] = none
+  find (x ∷ xs) = if test x then some x else find xs
+
+  pub find-keep : (xs : List A) → head? (keep test xs) ≡ find xs
+  find-keep [] = refl
+  find-keep (x ∷ xs) = go (test x) (find-keep xs)
+    where
+      go : (b : Bool) → head? (keep test xs) ≡ find xs → head? (if b then (x ∷ keep test xs) else keep test xs) ≡ (if b then some x else find xs)
+      go true e = refl
+      go false e = e
+
+pub find-cong {ℓ} : {A : Type ℓ} (p q : A → Bool) (xs : List A) → ((x : A) → List·Memᴰ x xs → p x ≡ q x) → find p xs ≡ find q xs
+find-cong p q [] h = refl
+find-cong p q (x ∷ xs) h = rw (h x (List·Memᴰ·head refl), find-cong p q xs (λ y m. h y (List·Memᴰ·tail m)))
+
+-- one member more at the end
+pub length-more {ℓ} : {A : Type ℓ} (xs : List A) (x : A) → length (xs ++ (x ∷ [])) ≡ length xs + 1
+length-more xs x = length-append xs (x ∷ [])
+
+pub last-is {ℓ} : {A : Type ℓ} (xs : List A) (x d : A) → getD (xs ++ (x ∷ [])) (length xs) d ≡ x
+last-is [] x d = refl
+last-is (y ∷ ys) x d = last-is ys x d
+
+pub others-are {ℓ} : {A : Type ℓ} (xs : List A) (x d : A) (j : ℕ) → (j ≡ length xs → ⊥) → getD (xs ++ (x ∷ [])) j d ≡ getD xs j d
+others-are [] x d zero h = absurd (h refl)
+others-are [] x d (suc j) h = refl
+others-are (y ∷ ys) x d zero h = refl
+others-are (y ∷ ys) x d (suc j) h = others-are ys x d j (λ e. h (ap suc e))
+
+pub keep-more {ℓ} : {A : Type ℓ} (f : A → Bool) (xs : List A) (x : A) → length (keep f (xs ++ (x ∷ []))) ≡ length (keep f xs) + bit (f x)
+keep-more f [] x = go (f x)
+  where
+    go : (b : Bool) → length (if b then (x ∷ []) else []) ≡ 0 + bit b
+    go true = omega arith
+    go false = omega arith
+keep-more f (y ∷ xs) x = go (f y) (keep-more f xs x)
+  where
+    go : (b : Bool) → length (keep f (xs ++ (x ∷ []))) ≡ length (keep f xs) + bit (f x)
+        → length (if b then (y ∷ keep f (xs ++ (x ∷ []))) else keep f (xs ++ (x ∷ []))) ≡ length (if b then (y ∷ keep f xs) else keep f xs) + bit (f x)
+    go true e = omega arith
+    go false e = e
+
+pub keep-le {ℓ} : {A : Type ℓ} (f : A → Bool) (xs : List A) → length (keep f xs) ≤ length xs
+keep-le f [] = omega arith
+keep-le f (x ∷ xs) = go (f x) (keep-le f xs)
+  where
+    go : (b : Bool) → length (keep f xs) ≤ length xs → length (if b then (x ∷ keep f xs) else keep f xs) ≤ suc (length xs)
+    go true h = omega arith
+    go false h = omega arith
+
+-- a test that every number of a run passes
+pub all-at : (f : ℕ → Bool) (i m o : ℕ) → o < m → all (map f (from i m)) ≡ true → f (i + o) ≡ true
+all-at f i zero o h e = absurd (omega arith)
+all-at f i (suc m) zero h e = ap f (add-zero i) ∙ and-left (f i) _ e
+all-at f i (suc m) (suc o) h e = ap f (omega arith) ∙ all-at f (suc i) m o (omega arith) (and-right (f i) _ e)
+
+-- the test of the numbers from k up to n, as a loop makes it
+unfoldable pub scan : (ℕ → Bool) → ℕ → ℕ → Bool
+scan p k n = all (map p (from k (n - k)))
+
+module _ (p : ℕ → Bool) (n : ℕ) where
+  pub scan-start : scan p 0 n ≡ all (map p (from 0 n))
+  unfolding scan
+  scan-start = rw sub-zero
+
+  pub scan-end : (k : ℕ) → n ≤ k → scan p k n ≡ true
+  unfolding scan
+  scan-end k h = let e : n - k ≡ 0 = omega arith in rw e
+
+  module _ {k : ℕ} (h : k < n) where
+    one-less : n - k ≡ suc (n - (k + 1))
+    one-less = omega arith
+
+    pub scan-no : p k ≡ false → scan p k n ≡ false
+    unfolding scan
+    scan-no e = rw one-less (simp e)
+
+    pub scan-more : p k ≡ true → scan p k n ≡ scan p (k + 1) n
+    unfolding scan
+    scan-more e = rw (one-less, add-one) (simp e)

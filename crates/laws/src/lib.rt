@@ -1,0 +1,1 @@
+// No code: the definitions and laws that belong to no rule stand in specs/.

@@ -1,0 +1,118 @@
+-- 01, 'Nets to try': the rows marked † as one list of inputs and results, and one proof that settles them against the rules.
+use mathlib.Core.Bool.{Bool, true, false, _&&_}
+use mathlib.Core.List.{List, [], _∷_, _++_, map}
+use Prim.Native.Nat.{ℕ, zero, suc, _/_, _^_, _%_}
+use lib.Dec.{T, eqb}
+use lib.ListN.{length, drop, replicate}
+use lib.IntN.{ℤ, pos, negsuc}
+use lib.Signed.{leZ}
+use Rattle.laws.specs.Basic
+use Rattle.laws.specs.Basic.{all}
+use Rattle.rules.specs.Tree
+use Rattle.rules.specs.Bytes
+use Rattle.rules.specs.Timing
+use Rattle.rules.specs.Grain
+use Rattle.rules.specs.Reading
+use Rattle.rules.specs.Judging
+use Rattle.rules.specs.Judging.{judge}
+use Rattle.rules.specs.Planning
+use Rattle.rules.specs.Planning.{PlanAnswer, plan}
+
+-- A number in w bytes, most significant first.
+abbrev pub bytes : ℕ → ℕ → List ℕ
+bytes zero x = []
+bytes (suc w) x = (x / 256 ^ w % 256) ∷ bytes w x
+
+-- 'Two layers: (4, 1) and (1, 1)'.
+abbrev pub twoLayers : List ℕ
+twoLayers = bytes 1 1 ++ (bytes 2 8 ++ (bytes 2 4 ++ (bytes 2 1 ++ (bytes 2 1 ++ bytes 2 1))))
+
+-- 'driver resistance 1, intrinsic 0, arrival 0'.
+abbrev pub plainDriver : List ℕ
+plainDriver = bytes 1 2 ++ (bytes 2 16 ++ (bytes 4 1 ++ (bytes 4 0 ++ bytes 8 0)))
+
+-- A sink: parent, length, the two costs, input capacitance, required time.
+abbrev pub sinkField : ℕ → ℕ → ℕ → ℕ → ℕ → ℕ → List ℕ
+sinkField p len a b c t = bytes 1 5 ++ (bytes 2 24 ++ (bytes 2 p ++ (bytes 2 len ++ (bytes 4 a ++ (bytes 4 b ++ (bytes 4 c ++ bytes 8 t))))))
+
+-- A buffer: parent, length, the two costs, input capacitance, gate resistance, intrinsic delay.
+abbrev pub bufferField : ℕ → ℕ → ℕ → ℕ → ℕ → ℕ → ℕ → List ℕ
+bufferField p len a b c r d =
+    bytes 1 4 ++ (bytes 2 24 ++ (bytes 2 p ++ (bytes 2 len ++ (bytes 4 a ++ (bytes 4 b ++ (bytes 4 c ++ (bytes 4 r ++ bytes 4 d)))))))
+
+-- Net A with required time t.
+abbrev pub netA : ℕ → List ℕ
+netA t = twoLayers ++ (plainDriver ++ sinkField 0 10 10 20 5 t)
+
+-- Net B.
+abbrev pub netB : List ℕ
+netB = twoLayers ++ (plainDriver ++ (bufferField 0 10 10 20 5 1 3 ++ sinkField 1 10 12 25 5 1063))
+
+-- Net A as 01 prints it, in hexadecimal.
+abbrev pub netAHex : List ℕ
+netAHex = 0x01 ∷ 0x00 ∷ 0x08 ∷ 0x00 ∷ 0x04 ∷ 0x00 ∷ 0x01 ∷ 0x00 ∷ 0x01 ∷ 0x00 ∷ 0x01 ∷ 0x02 ∷ 0x00 ∷ 0x10 ∷ 0x00 ∷ 0x00 ∷ 0x00 ∷ 0x01 ∷ 0x00 ∷ 0x00 ∷ 0x00 ∷ 0x00 ∷ 0x00 ∷ 0x00 ∷ 0x00 ∷ 0x00 ∷ 0x00 ∷ 0x00 ∷ 0x00 ∷ 0x00 ∷ 0x05 ∷ 0x00 ∷ 0x18 ∷ 0x00 ∷ 0x00 ∷ 0x00 ∷ 0x0A ∷ 0x00 ∷ 0x00 ∷ 0x00 ∷ 0x0A ∷ 0x00 ∷ 0x00 ∷ 0x00 ∷ 0x14 ∷ 0x00 ∷ 0x00 ∷ 0x00 ∷ 0x05 ∷ 0x00 ∷ 0x00 ∷ 0x00 ∷ 0x00 ∷ 0x00 ∷ 0x00 ∷ 0x03 ∷ 0x3E ∷ []
+
+-- Equal times, and lists of equal members.
+abbrev pub sameZ : ℤ → ℤ → Bool
+sameZ a b = leZ a b && leZ b a
+
+-- Equal lists, where `eq` says which members are equal.
+abbrev pub same {ℓ} : {A : Type ℓ} → (A → A → Bool) → List A → List A → Bool
+same eq [] [] = true
+same eq [] (y ∷ ys) = false
+same eq (x ∷ xs) [] = false
+same eq (x ∷ xs) (y ∷ ys) = eq x y && same eq xs ys
+
+-- A row: an input and the results that 01 gives for it.
+pub data Row : Type 0 where
+  -- judged: net, plan; cost, slack
+  Judges : List ℕ → List ℕ → ℕ → ℤ → Row
+  -- planned: net, p, q, table entries; plan, cost, slack, k
+  Plans : List ℕ → ℕ → ℕ → ℕ → List ℕ → ℕ → ℤ → ℕ → Row
+  -- planned and refused: net, p, q, table entries; refusal
+  Refuses : List ℕ → ℕ → ℕ → ℕ → ℕ → Row
+
+-- A plan buffer of 64 bytes and a table, with something in them beforehand.
+abbrev pub usedBuffer : List ℕ
+usedBuffer = replicate 64 77
+
+-- The table of so many entries.
+abbrev pub usedTable : ℕ → List ℤ
+usedTable entries = replicate entries (negsuc 5)
+
+-- Planning on used buffers.
+abbrev pub planOn : List ℕ → ℕ → ℕ → ℕ → PlanAnswer
+planOn bs p q entries = plan bs p q (usedTable entries) usedBuffer
+
+-- The answer has these results, the table these entries, the buffer these bytes.
+abbrev pub answers : PlanAnswer → ℕ → ℕ → ℤ → ℕ → List ℕ → List ℤ → Bool
+answers a r c s k buffer table =
+    eqb (a .refusal) r && (eqb (a .cost) c && (sameZ (a .slack) s && (eqb (a .k) k && (same eqb (a .buffer) buffer && same sameZ (a .table) table))))
+
+-- A row holds.
+abbrev pub holds : Row → Bool
+holds (Judges bs x c s) = eqb (judge bs x .refusal) 0 && (eqb (judge bs x .cost) c && sameZ (judge bs x .slack) s)
+holds (Plans bs p q m x c s k) = answers (planOn bs p q m) 0 c s k (x ++ drop (length x) usedBuffer) (replicate m (pos 0))
+holds (Refuses bs p q m r) = answers (planOn bs p q m) r 0 (pos 0) 0 usedBuffer (Basic.if_then_else_ (eqb r 12) (replicate m (pos 0)) (usedTable m))
+
+-- The rows, in the order of 01. Where 01 names no table, it has 200 entries.
+abbrev pub rows : List Row
+rows =
+    Judges netAHex (0 ∷ []) 10 (pos 0) ∷
+    Judges (netA 830) (1 ∷ []) 20 (pos 600) ∷
+    Plans (netA 829) 0 1 200 (1 ∷ []) 20 (pos 599) 0 ∷
+    Plans (netA 230) 0 1 200 (1 ∷ []) 20 (pos 0) 0 ∷
+    Refuses (netA 229) 0 1 200 11 ∷
+    Judges netB (0 ∷ 0 ∷ []) 22 (negsuc 599) ∷
+    Judges netB (1 ∷ 1 ∷ []) 45 (pos 600) ∷
+    Plans netB 0 1 132 (1 ∷ 0 ∷ []) 32 (pos 0) 0 ∷
+    Refuses netB 0 1 131 12 ∷
+    Plans netB 1 1 200 (1 ∷ 0 ∷ []) 32 (pos 0) 3 ∷
+    Plans netB 2 1 8 (0 ∷ 1 ∷ []) 35 (pos 0) 4 ∷
+    Refuses netB 2 1 7 12 ∷
+    []
+
+-- All rows hold, by computing the definitions on them.
+pub settled : T (all (map holds rows))
+unfolding Basic.largest Tree.node Tree.edges Tree.childrenOf Tree.roots Tree.stages Tree.root Tree.layerCount Tree.drives Tree.rootFrom Tree.pathFrom Tree.stageOf Tree.between Tree.edgesOf Tree.terminals Tree.areLayers Tree.isPlan Tree.plans Bytes.number Bytes.signed Bytes.fieldAt Bytes.next Bytes.dueLayers Bytes.dueDriver Bytes.dueNode Bytes.layerAt Bytes.layersAt Bytes.driverAt Bytes.kindAt Bytes.costsAt Bytes.nodeAt Bytes.isTime Bytes.isLayer Bytes.isDriver Bytes.isKind Bytes.isCosts Bytes.isNode Timing.layer Timing.edgeRes Timing.edgeCap Timing.loadFrom Timing.load Timing.edgeDelay Timing.gateRes Timing.gateIntrinsic Timing.gateDelay Timing.wireDelay Timing.requiredFrom Timing.required Timing.slack Timing.meets Timing.edgeCost Timing.cost Timing.stageCost Timing.stageCosts Grain.roundedCost Grain.meetingPlans Grain.leastRounded Grain.qualifies Grain.grainExponent Grain.chosen Grain.columns Grain.columnsNeeded Reading.field Reading.children Reading.buffers Reading.hasRoom Reading.isParent Reading.nodeField Reading.nodesFrom Reading.isWhole Reading.read Reading.check Judging.judged Judging.judge Planning.planned Planning.cleared Planning.plan
+settled = tt

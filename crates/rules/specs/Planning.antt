@@ -1,0 +1,75 @@
+-- 01, 'Planning': what planning answers, and what it leaves in the plan buffer and in the table, for every input.
+use mathlib.Core.Path.{_≡_}
+use mathlib.Core.Bool.{Bool, true, _&&_}
+use mathlib.Core.Option.{Option, none, some}
+use mathlib.Core.List.{List, _++_}
+use Prim.Native.Nat.{ℕ, _+_, _*_, _≤_}
+use lib.Dec.{leb, ltb, eqb}
+use lib.ListN.{length, drop, replicate}
+use lib.IntN.{ℤ, pos}
+use Rattle.laws.specs.Basic.{if_then_else_, within}
+use Rattle.rules.specs.Tree.{Net, stages, isPlan}
+use Rattle.rules.specs.Timing.{slack, meets, cost}
+use Rattle.rules.specs.Grain.{meetingPlans, grainExponent, chosen, columns, columnsNeeded}
+use Rattle.rules.specs.Reading.{Answer, accept, refuse, _>>=_, _>>_, _unless_, read}
+
+-- p is at most 1,000 and q from 1 to 1,000 (refusal 9).
+abbrev pub maxShare : ℕ
+maxShare = 1000
+
+-- What an accepted call settles: the net, the k of the grain, and the plan.
+pub record Choice : Type 0 where
+  pub net : Net
+  pub k : ℕ
+  pub plan : List ℕ
+
+-- The plan chosen, if there is one.
+abbrev pub taken : Option (List ℕ) → Answer (List ℕ)
+taken none = refuse 11
+taken (some x) = accept x
+
+-- Planning with share p/q, a table of so many entries and a plan buffer of so many bytes. Refusals: 1 to 6; 9, p above 1,000 or q outside 1 to 1,000;
+-- 10, plan buffer shorter than s; 11, no plan meets timing; 12, fewer than V(k) + 1 columns. (Past 11 there is a plan to choose.)
+unfoldable pub planned : List ℕ → ℕ → ℕ → ℕ → ℕ → Answer Choice
+planned bs p q entries room = do
+  n ← read bs
+  9 unless leb p maxShare && within 1 maxShare q
+  10 unless leb (stages n) room
+  11 unless ltb 0 (length (meetingPlans n))
+  12 unless leb (columnsNeeded n (grainExponent n p q)) (columns n entries)
+  x ← taken (chosen n (grainExponent n p q))
+  accept (record { net = n; k = grainExponent n p q; plan = x })
+
+-- All that a call answers and leaves behind but for the floor.
+pub record PlanAnswer : Type 0 where
+  pub refusal : ℕ
+  pub cost : ℕ
+  pub slack : ℤ
+  pub k : ℕ
+  pub buffer : List ℕ
+  pub table : List ℤ
+
+-- A table all zero.
+unfoldable pub cleared : List ℤ → List ℤ
+cleared table = replicate (length table) (pos 0)
+
+-- What planning answers and leaves. Accepted: cost and slack of the plan, k; the plan's s bytes open the buffer, later bytes keep their values; the
+-- table is all zero. Refused: the number and zeros; the buffer is unchanged, and so is the table, which after 12 is all zero.
+unfoldable pub plan : List ℕ → ℕ → ℕ → List ℤ → List ℕ → PlanAnswer
+plan bs p q table buffer = elim (planned bs p q (length table) (length buffer)) [
+  | accept c ↦ record {
+    refusal = 0;
+    cost = cost (c .net) (c .plan);
+    slack = slack (c .net) (c .plan);
+    k = c .k;
+    buffer = c .plan ++ drop (length (c .plan)) buffer;
+    table = cleared table;
+  }
+  | refuse r ↦ record { refusal = r; cost = 0; slack = pos 0; k = 0; buffer = buffer; table = if eqb r 12 then cleared table else table }
+]
+
+-- The floor of an accepted call is decided by no definition: these two bounds are all that is promised of it. It is at most the cost of every plan
+-- of the net that meets timing, and q × cost is at most (q + p) × floor.
+pub record IsFloor (n : Net) (p q planCost floor : ℕ) : Type 0 where
+  pub below : (x : List ℕ) → isPlan n x ≡ true → meets n x ≡ true → floor ≤ cost n x
+  pub near : q * planCost ≤ (q + p) * floor

@@ -1,0 +1,30 @@
+// The values of document 01 that code and definitions share. The rules themselves stand in specs/.
+
+// The kind of a node after the driver, with the numbers of its own (01, Net bytes, tags 3 to 5).
+pub enum Kind {
+    Steiner,
+    Buffer {
+        input_cap: u64,
+        gate_res: u64,
+        intrinsic: u64,
+    },
+    Sink {
+        input_cap: u64,
+        required: i64,
+    },
+}
+
+// What checking answers (01, Reading): a refusal number, 0 if accepted, and three counts.
+pub struct Checked {
+    pub refusal: u8,
+    pub nodes: u64,
+    pub stages: u64,
+    pub layers: u64,
+}
+
+// What judging answers (01, Judging): a refusal number, 0 if accepted, and the plan's cost and slack.
+pub struct Judged {
+    pub refusal: u8,
+    pub cost: u64,
+    pub slack: i64,
+}
