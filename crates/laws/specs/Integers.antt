@@ -1,7 +1,7 @@
 -- Integers (times) as differences of two numbers, so that omega decides what is linear in them; their order, their least.
 use mathlib.Core.Path.{_≡_, refl, ap, sym, _∙_}
 use mathlib.Core.Bool.{Bool, true, false, not, cond, _&&_, and-true}
-use mathlib.Core.List.{List, [], _∷_, _++_, List·Memᴰ, List·Memᴰ·head, List·Memᴰ·tail}
+use mathlib.Core.List.{List, [], _∷_, _++_, List·Memᴰ, List·Memᴰ·head, List·Memᴰ·tail, List·Memᴰ·not-nil}
 use Prim.Native.Nat.{ℕ, zero, suc, _+_, _-_, _≤_, _<_, min}
 use native.Mathlib.Omega.{arith}
 use lib.Dec.{leb, ltb}
@@ -144,3 +144,28 @@ pub least-members : (rs qs : List ℤ) → Some rs → Some qs → ((z : ℤ) �
 least-members [] qs s t f g = absurd s
 least-members (r ∷ rs) [] s t f g = absurd t
 least-members (r ∷ rs) (q ∷ qs) s t f g = same-bounds (leastZ r rs) (leastZ q qs) (λ x. le-leastZ x r rs ∙ both (allLe x (r ∷ rs)) (allLe x (q ∷ qs)) (allLe-sub x (r ∷ rs) (q ∷ qs) f) (allLe-sub x (q ∷ qs) (r ∷ rs) g) ∙ sym (le-leastZ x q qs))
+
+-- A list with a member is not empty.
+pub some-mem {ℓ} : {A : Type ℓ} {x : A} (xs : List A) → List·Memᴰ x xs → Some xs
+some-mem [] m = absurd (List·Memᴰ·not-nil m)
+some-mem (x ∷ xs) m = tt
+
+-- How far a difference can lie above and below 0.
+pub minus-up : (x y : ℤ) → up (x -ℤ y) ≤ up x + down y
+minus-up x y = omega (arith, add-view x (negℤ y), neg-view y, thin x, thin y, thin (x -ℤ y))
+
+pub minus-down : (x y : ℤ) → down (x -ℤ y) ≤ down x + up y
+minus-down x y = omega (arith, add-view x (negℤ y), neg-view y, thin x, thin y, thin (x -ℤ y))
+
+-- The least of a list is one of its members.
+pub least-mem : (xs : List ℤ) → Some xs → List·Memᴰ (leastOf xs) xs
+least-mem [] s = absurd s
+least-mem (x ∷ xs) s = go x xs
+  where
+    go : (x : ℤ) (xs : List ℤ) → List·Memᴰ (leastZ x xs) (x ∷ xs)
+    go x [] = List·Memᴰ·head refl
+    go x (y ∷ ys) = pick (leZ x (leastZ y ys)) (go y ys)
+      where
+        pick : (b : Bool) → List·Memᴰ (leastZ y ys) (y ∷ ys) → List·Memᴰ (cond b x (leastZ y ys)) (x ∷ y ∷ ys)
+        pick true m = List·Memᴰ·head refl
+        pick false m = List·Memᴰ·tail m

@@ -4,3 +4,4 @@ pub mod Integers
 pub mod Lists
 pub mod Extremes
 pub mod Counting
+pub mod Sums

@@ -161,3 +161,35 @@ module _ (p : ℕ → Bool) (n : ℕ) where
     pub scan-more : p k ≡ true → scan p k n ≡ scan p (k + 1) n
     unfolding scan
     scan-more e = rw (one-less, add-one) (simp e)
+
+-- What a test shows of its members, and what holds of the default, holds of every entry of a list whose members all pass.
+pub all-getD {ℓ} : {A : Type ℓ} (test : A → Bool) (P : A → Type 0) {d : A} → ((x : A) → test x ≡ true → P x) → P d
+    → (xs : List A) (i : ℕ) → all (map test xs) ≡ true → P (getD xs i d)
+all-getD test P shows p [] i e = p
+all-getD test P shows p (x ∷ xs) zero e = shows x (and-left (test x) _ e)
+all-getD test P shows p (x ∷ xs) (suc i) e = all-getD test P shows p xs i (and-right (test x) _ e)
+
+-- Where a member passes, one entry does.
+pub some-passes {ℓ} : {A : Type ℓ} (test : A → Bool) (d : A) (xs : List A) → 1 ≤ length (keep test xs) → (i : ℕ) × (i < length xs) × (test (getD xs i d) ≡ true)
+some-passes test d [] h = absurd (omega arith)
+some-passes test d (x ∷ xs) h = go (test x) refl h (some-passes test d xs)
+  where
+    go : (b : Bool) → test x ≡ b → 1 ≤ length (if b then (x ∷ keep test xs) else keep test xs)
+        → (1 ≤ length (keep test xs) → (i : ℕ) × (i < length xs) × (test (getD xs i d) ≡ true))
+        → (i : ℕ) × (i < suc (length xs)) × (test (getD (x ∷ xs) i d) ≡ true)
+    go true e h r = (0, omega arith, e)
+    go false e h r = let (i, a, b) = r h in (suc i, omega arith, b)
+
+-- As many members pass as numbers do, if entry m has the number i + m.
+pub count-by-number {ℓ} : {A : Type ℓ} (test : A → Bool) (d : A) (xs : List A) (entry : ℕ → A) (i : ℕ) → ((m : ℕ) → m < length xs → entry (i + m) ≡ getD xs m d)
+    → length (keep test xs) ≡ length (keep (λ j. test (entry j)) (from i (length xs)))
+count-by-number test d [] entry i h = refl
+count-by-number test d (x ∷ xs) entry i h =
+    let e : entry i ≡ x = ap entry (sym (add-zero i)) ∙ h 0 (omega arith) in
+    rw e (go (test x) (count-by-number test d xs entry (suc i) (λ m b. ap entry (omega arith) ∙ h (suc m) (omega arith))))
+  where
+    go : (b : Bool) → length (keep test xs) ≡ length (keep (λ j. test (entry j)) (from (suc i) (length xs)))
+        → length (if b then (x ∷ keep test xs) else keep test xs)
+        ≡ length (if b then (i ∷ keep (λ j. test (entry j)) (from (suc i) (length xs))) else keep (λ j. test (entry j)) (from (suc i) (length xs)))
+    go true e = ap suc e
+    go false e = e

@@ -1,4 +1,27 @@
-// The values of document 01 that code and definitions share. The rules themselves stand in specs/.
+// The values and limits of document 01 that code and definitions share. The rules themselves stand in specs/.
+
+// The ranges and limits of 01, Net bytes, as code compares with them; specs/Bytes.antt has the same numbers for the definitions.
+pub const MAX_UNIT: u64 = 1_000;
+
+pub const MAX_LAYERS: usize = 16;
+
+pub const MAX_LENGTH: u64 = 1_000;
+
+pub const MAX_COST: u64 = 1_000_000;
+
+pub const MAX_GATE_RES: u64 = 100_000;
+
+pub const MAX_INPUT_CAP: u64 = 100_000;
+
+pub const MAX_INTRINSIC: u64 = 1_000_000_000;
+
+pub const MAX_TIME: i64 = 1_000_000_000_000_000;
+
+pub const MAX_NODES: usize = 255;
+
+pub const MAX_STAGES: usize = 64;
+
+pub const MAX_CHILDREN: u16 = 2;
 
 // The kind of a node after the driver, with the numbers of its own (01, Net bytes, tags 3 to 5).
 pub enum Kind {

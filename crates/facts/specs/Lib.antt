@@ -1,0 +1,9 @@
+pub mod Answers
+pub mod Accepted
+pub mod Stages
+pub mod Words
+pub mod Ranges
+pub mod Loads
+pub mod Bounds
+pub mod Fits
+pub mod Costs

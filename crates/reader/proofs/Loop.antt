@@ -1,0 +1,279 @@
+-- The loop over the node fields: what its two arrays hold of the nodes read so far, and that the definition from here on gives the whole answer.
+use mathlib.Core.Path.{_≡_, refl, ap, sym, _∙_, subst}
+use mathlib.Core.Bool.{Bool, true, false, _&&_, _||_, not}
+use mathlib.Core.Logic.{_⊎_, inl, inr}
+use mathlib.Core.List.{List, [], _∷_, _++_, map}
+use Prim.Native.Nat.{ℕ, zero, suc, _+_, _*_, _-_, _<_, _≤_}
+use native.Mathlib.Nat.{add-zero, mul-zero}
+use native.Mathlib.Numerals.{add-one}
+use native.Mathlib.Omega.{arith}
+use lib.Dec.{leb, ltb, eqb}
+use lib.ListN.{length, getD, set, replicate, length-append, length-set, length-replicate, getD-replicate}
+use lib.Seq.{getD-set-same, getD-set-other}
+use borrow.Author.Tests.{lt-ltb, le-ltb, le-leb, lt-leb, eq-eqb, ne-eqb, leb-true, ltb-true}
+use Rattle.laws.specs.Basic.{bit, all, from}
+use Rattle.laws.specs.Booleans.{and-left, and-right, same-or, bit-le}
+use Rattle.laws.specs.Lists.{keep-more, keep-le, length-more, last-is, others-are, map-same, from-mem}
+use Rattle.rules.specs.Tree.{Node, isSink, isBuffer, node, noNode}
+use Rattle.rules.specs.Bytes.{Field, maxNodes, maxChildren, dueNode, nodeAt, isNode, fieldAt, next}
+use Rattle.rules.specs.Reading.{Answer, accept, refuse, _>>=_, _>>_, _unless_, field, children, buffers, isParent, hasRoom, nodeField, nodesFrom, isWhole}
+use Rattle.facts.specs.Answers.{not-refused, accept-injective, then-accepted, unless-accepted, then-same, turned-accepted, turned-refused}
+use Rattle.reader.specs.Nodes.{roomFor, parentFor, wholeFor, stepField, stepAt, recordAt, takenAt, Taken, Counted, counted, places, HeadOf, Heads, Kids, NodesRead}
+use Rattle.reader.specs.declared.Nodes.the-variants as nodes
+use Rattle.fields.proofs.Laws.{field-inside}
+
+-- one node more
+children-more : (ns : List Node) (n : Node) (j : ℕ) → children (ns ++ (n ∷ [])) j ≡ children ns j + bit (eqb (n .parent) j)
+unfolding children
+children-more ns n j = keep-more (λ m. eqb (m .parent) j) ns n
+
+children-le : (ns : List Node) (j : ℕ) → children ns j ≤ length ns
+unfolding children
+children-le ns j = keep-le (λ m. eqb (m .parent) j) ns
+
+buffers-more : (ns : List Node) (n : Node) → buffers (ns ++ (n ∷ [])) ≡ buffers ns + bit (isBuffer (n .kind))
+unfolding buffers
+buffers-more ns n = keep-more (λ m. isBuffer (m .kind)) ns n
+
+node-last : (ns : List Node) (n : Node) → node (ns ++ (n ∷ [])) (length ns + 1) ≡ n
+unfolding node
+node-last ns n = rw add-one (last-is ns n noNode)
+
+node-other : (ns : List Node) (n : Node) (j : ℕ) → (j ≡ length ns + 1 → ⊥) → node (ns ++ (n ∷ [])) j ≡ node ns j
+unfolding node
+node-other ns n zero h = refl
+node-other ns n (suc j) h = others-are ns n noNode j (λ e. h (ap suc e ∙ sym (add-one _)))
+
+node-beyond : (ns : List Node) → node ns (length ns + 1) ≡ noNode
+unfolding node
+node-beyond ns = rw add-one (go ns)
+  where
+    go : (ms : List Node) → getD ms (length ms) noNode ≡ noNode
+    go [] = refl
+    go (m ∷ ms) = go ms
+
+-- a sum into an entry
+added : (l : List ℕ) (i j x : ℕ) → i < length l → getD (set l i (getD l i 0 + x)) j 0 ≡ getD l j 0 + x * bit (eqb i j)
+added l i j x h = go (same-or i j)
+  where
+    go : (j ≡ i) ⊎ (j ≡ i → ⊥) → getD (set l i (getD l i 0 + x)) j 0 ≡ getD l j 0 + x * bit (eqb i j)
+    go (inl e) = rw e (getD-set-same l i _ 0 h ∙ rw (eq-eqb i i refl) (omega arith))
+    go (inr e) = getD-set-other l i j _ 0 e ∙ rw (ne-eqb i j (λ q. e (sym q))) (omega arith)
+
+-- the places of each node after one node more
+places-none : (j : ℕ) → places [] j ≡ 0
+unfolding places children node
+places-none zero = refl
+places-none (suc j) = refl
+
+places-more : (ns : List Node) (n : Node) (j : ℕ) → places (ns ++ (n ∷ [])) j ≡ (places ns j + bit (eqb (n .parent) j)) + (maxChildren * bit (isSink (n .kind))) * bit (eqb (length ns + 1) j)
+unfolding places
+places-more ns n j = go (same-or (length ns + 1) j)
+  where
+    go : (j ≡ length ns + 1) ⊎ (j ≡ length ns + 1 → ⊥)
+        → children (ns ++ (n ∷ [])) j + maxChildren * bit (isSink (node (ns ++ (n ∷ [])) j .kind))
+        ≡ ((children ns j + maxChildren * bit (isSink (node ns j .kind))) + bit (eqb (n .parent) j)) + (maxChildren * bit (isSink (n .kind))) * bit (eqb (length ns + 1) j)
+    go (inl e) = rw (e, node-last ns n, node-beyond ns, eq-eqb (length ns + 1) (length ns + 1) refl) (omega (arith, children-more ns n (length ns + 1)))
+    go (inr e) = rw (node-other ns n j e, ne-eqb (length ns + 1) j (λ q. e (sym q))) (omega (arith, children-more ns n j))
+
+pub kids-none : {kids : List ℕ} → kids ≡ replicate 256 0 → Kids [] kids
+kids-none e = record { each = λ j h. rw e (getD-replicate 256 j 0 0 h ∙ sym (places-none j)) }
+
+module _ {ns : List Node} {kids : List ℕ} (K : Kids ns kids) (n : Node) (few : length ns ≤ 254) (low : n .parent ≤ length ns) (long : length kids ≡ 256) where
+  parented-at : (j : ℕ) → getD (set kids (n .parent) (getD kids (n .parent) 0 + 1)) j 0 ≡ getD kids j 0 + 1 * bit (eqb (n .parent) j)
+  parented-at j = added kids (n .parent) j 1 (omega arith)
+
+  kids-small : getD (set kids (n .parent) (getD kids (n .parent) 0 + 1)) (length ns + 1) 0 ≤ 256
+  unfolding places
+  kids-small = omega (arith, parented-at (length ns + 1), K .each (length ns + 1) (omega arith), children-le ns (length ns + 1), bit-le (eqb (n .parent) (length ns + 1)), ap (λ (m : Node). bit (isSink (m .kind))) (node-beyond ns))
+
+  kids-more : Kids (ns ++ (n ∷ [])) (set (set kids (n .parent) (getD kids (n .parent) 0 + 1)) (length ns + 1) (getD (set kids (n .parent) (getD kids (n .parent) 0 + 1)) (length ns + 1) 0 + maxChildren * bit (isSink (n .kind))))
+  kids-more = record {
+    each = λ j h.
+        added (set kids (n .parent) (getD kids (n .parent) 0 + 1)) (length ns + 1) j (maxChildren * bit (isSink (n .kind))) (omega (arith, length-set kids (n .parent) (getD kids (n .parent) 0 + 1))) ∙
+        omega (arith, parented-at j, K .each j h, places-more ns n j);
+  }
+
+-- the code's tests are those of the definition, over the nodes that the array stands for
+open-or-full : (s : Bool) (c : ℕ) → ltb (c + maxChildren * bit s) maxChildren ≡ not s && ltb c maxChildren
+open-or-full true c = le-ltb (c + 2 * 1) 2 (omega arith)
+open-or-full false c = ap (λ (x : ℕ). ltb x 2) (add-zero c)
+
+some-or-sink : (s : Bool) (c : ℕ) → leb 1 (c + maxChildren * bit s) ≡ s || leb 1 c
+some-or-sink true c = le-leb 1 (c + 2 * 1) (omega arith)
+some-or-sink false c = ap (leb 1) (add-zero c)
+
+module _ {ns : List Node} {kids : List ℕ} (K : Kids ns kids) (few : length ns ≤ maxNodes) where
+  parent-same : (p : ℕ) → parentFor (length ns) kids p ≡ isParent ns p
+  unfolding parentFor isParent places
+  parent-same p = go (leb p (length ns)) refl
+    where
+      go : (b : Bool) → leb p (length ns) ≡ b
+          → (leb p (length ns) && ltb (getD kids p 0) maxChildren) ≡ (leb p (length ns) && not (isSink (node ns p .kind)) && ltb (children ns p) maxChildren)
+      go false e = simp e
+      go true e =
+          let l = leb-true p (length ns) e in
+          simp e (ap (λ (x : ℕ). ltb x maxChildren) (K .each p (omega arith)) ∙ open-or-full (isSink (node ns p .kind)) (children ns p))
+
+  step-same : (bs : List ℕ) (L i : ℕ) → stepField bs L (length ns) (buffers ns) kids i ≡ nodeField bs L ns i
+  unfolding stepField nodeField roomFor hasRoom
+  step-same bs L i = then-same (field (dueNode L) bs i) _ _ (λ f. simp parent-same)
+
+  pub whole-same : wholeFor (length ns) kids ≡ isWhole ns
+  unfolding wholeFor isWhole places
+  whole-same =
+      ap all (map-same (λ i. leb 1 (getD kids i 0)) (λ i. isSink (node ns i .kind) || leb 1 (children ns i)) (from 0 (length ns + 1))
+      (λ i m. ap (leb 1) (K .each i (omega (arith, from-mem 0 (length ns + 1) i m))) ∙ some-or-sink (isSink (node ns i .kind)) (children ns i)))
+
+-- the nodes so far, and what the definition gives from here on
+pub record Going (bs : List ℕ) (L first : ℕ) (heads kids : List ℕ) (at count bufs : ℕ) : Type 0 where
+  pub ns : List Node
+  pub kids-are : Kids ns kids
+  pub heads-are : Heads bs L ns heads
+  pub size : length ns ≡ count
+  pub buffered : buffers ns ≡ bufs
+  pub same : nodesFrom (maxNodes + 1 - count) bs L ns at ≡ nodesFrom (maxNodes + 1) bs L [] first
+  pub inside : at ≤ length bs
+  pub few : count ≤ maxNodes
+  pub fewer : bufs ≤ count
+  pub heads-long : length heads ≡ 256
+  pub kids-long : length kids ≡ 256
+
+-- one step of the definition
+module _ (bs : List ℕ) (L : ℕ) (ns : List Node) (at : ℕ) where
+  nodes-end : (k : ℕ) → length bs ≤ at → nodesFrom (suc k) bs L ns at ≡ accept ns
+  unfolding nodesFrom
+  nodes-end k h = rw (le-leb _ _ h, nodesFrom)
+
+  nodes-took : (k : ℕ) {f : Field} → at < length bs → nodeField bs L ns at ≡ accept f → nodesFrom (suc k) bs L ns at ≡ nodesFrom k bs L (ns ++ (nodeAt bs L f ∷ [])) (next f)
+  unfolding nodesFrom
+  nodes-took k h e = rw (lt-leb _ _ h, e, nodesFrom)
+
+  nodes-no : (k : ℕ) {r : ℕ} → at < length bs → nodeField bs L ns at ≡ refuse r → nodesFrom (suc k) bs L ns at ≡ refuse r
+  unfolding nodesFrom
+  nodes-no k h e = rw (lt-leb _ _ h, e, nodesFrom)
+
+-- what an accepted node field tells
+pub record Passed (bs : List ℕ) (L : ℕ) (ns : List Node) (at : ℕ) (f : Field) : Type 0 where
+  pub found : field (dueNode L) bs at ≡ accept f
+  pub room : length ns < maxNodes
+  pub low : nodeAt bs L f .parent ≤ length ns
+
+passed : (bs : List ℕ) (L : ℕ) (ns : List Node) (at : ℕ) {f : Field} → nodeField bs L ns at ≡ accept f → Passed bs L ns at f
+unfolding nodeField hasRoom isParent
+passed bs L ns at {f} e =
+    let (g, found, e1) = then-accepted (field (dueNode L) bs at) _ e in
+    let (a, e2) = unless-accepted 4 (hasRoom ns (nodeAt bs L g)) _ e1 in
+    let (b, e3) = unless-accepted 3 (isNode (nodeAt bs L g)) _ e2 in
+    let (c, e4) = unless-accepted 5 (isParent ns (nodeAt bs L g .parent)) _ e3 in
+    let q : g ≡ f = accept-injective e4 in
+    rw (← q) (record { found = found; room = ltb-true _ _ (and-left (ltb (length ns) maxNodes) _ a); low = lower c })
+  where
+    lower : {p : ℕ} → isParent ns p ≡ true → p ≤ length ns
+    lower {p} c = leb-true _ _ (and-left (leb p (length ns)) _ (and-left (leb p (length ns) && not (isSink (node ns p .kind))) _ c))
+
+-- one turn of the loop: the two counts of kids fit, and the next state
+pub record Turn (bs : List ℕ) (L first : ℕ) (heads kids : List ℕ) (at count bufs : ℕ) (t : Taken) : Type 0 where
+  pub low : t .node .parent ≤ count
+  pub room : count ≤ 254
+  pub small : getD kids (t .node .parent) 0 ≤ 257
+  pub smaller : getD (set kids (t .node .parent) (getD kids (t .node .parent) 0 + 1)) (count + 1) 0 ≤ 256
+  pub on : at < t .next
+  pub onward : Going bs L first (set heads (count + 1) at)
+      (set (set kids (t .node .parent) (getD kids (t .node .parent) 0 + 1)) (count + 1) (getD (set kids (t .node .parent) (getD kids (t .node .parent) 0 + 1)) (count + 1) 0 + maxChildren * bit (isSink (t .node .kind))))
+      (t .next) (count + 1) (bufs + bit (isBuffer (t .node .kind)))
+
+heads-more : {bs : List ℕ} {L : ℕ} {ns : List Node} {heads : List ℕ} (at : ℕ) {f : Field} → Heads bs L ns heads → length heads ≡ 256 → length ns ≤ 254 → field (dueNode L) bs at ≡ accept f
+    → Heads bs L (ns ++ (nodeAt bs L f ∷ [])) (set heads (length ns + 1) at)
+heads-more {bs} {L} {ns} {heads} at {f} H long few found = record { each = λ j h b. go j h b (same-or (length ns + 1) j) }
+  where
+    go : (j : ℕ) → 1 ≤ j → j ≤ length (ns ++ (nodeAt bs L f ∷ [])) → (j ≡ length ns + 1) ⊎ (j ≡ length ns + 1 → ⊥) → HeadOf bs L (node (ns ++ (nodeAt bs L f ∷ [])) j) (getD (set heads (length ns + 1) at) j 0)
+    go j h b (inl e) =
+        let i = field-inside (dueNode L) bs at found in
+        rw (e, node-last ns (nodeAt bs L f), getD-set-same heads (length ns + 1) at 0 (omega arith)) (record { found = found ∙ ap accept (i .is); is = ap (nodeAt bs L) (i .is) })
+    go j h b (inr e) = rw (node-other ns (nodeAt bs L f) j e, getD-set-other heads (length ns + 1) j at 0 e) (H .each j h (omega (arith, length-more ns (nodeAt bs L f))))
+
+module _ {bs : List ℕ} {L first : ℕ} {heads kids : List ℕ} {at count bufs : ℕ} (g : Going bs L first heads kids at count bufs) where
+  turn : at < length bs → (f : Field) → nodeField bs L (g .ns) at ≡ accept f → Turn bs L first heads kids at (length (g .ns)) (buffers (g .ns)) (takenAt bs L f)
+  unfolding takenAt recordAt nodeAt next places
+  turn h f e =
+      let ns = g .ns in
+      let n = nodeAt bs L f in
+      let p = passed bs L ns at e in
+      let i = field-inside (dueNode L) bs at (p .found) in
+      let few : length ns ≤ 254 = omega arith in
+      let k : maxNodes + 1 - count ≡ suc (maxNodes + 1 - (length ns + 1)) = omega (arith, g .size) in
+      record {
+        low = p .low;
+        room = few;
+        small = omega (arith, g .kids-are .each (n .parent) (omega arith), children-le ns (n .parent), bit-le (isSink (node ns (n .parent) .kind)));
+        smaller = kids-small (g .kids-are) n few (p .low) (g .kids-long);
+        on = omega (arith, i .begins);
+        onward = record {
+          ns = ns ++ (n ∷ []);
+          kids-are = kids-more (g .kids-are) n few (p .low) (g .kids-long);
+          heads-are = heads-more at (g .heads-are) (g .heads-long) few (p .found);
+          size = length-more ns n;
+          buffered = buffers-more ns n;
+          same = sym (nodes-took bs L ns at (maxNodes + 1 - (length ns + 1)) h e) ∙ (rw k at (g .same));
+          inside = i .ends;
+          few = omega arith;
+          fewer = omega (arith, g .fewer, g .size, g .buffered, bit-le (isBuffer (n .kind)));
+          heads-long = length-set heads (length ns + 1) _ ∙ g .heads-long;
+          kids-long = length-set (set kids (n .parent) _) (length ns + 1) _ ∙ (length-set kids (n .parent) _ ∙ g .kids-long);
+        };
+      }
+
+  stepped : stepAt bs L count bufs kids at ≡ (nodeField bs L (g .ns) at >>= λ f. accept (takenAt bs L f))
+  unfolding stepAt
+  stepped = rw (← g .size, ← g .buffered) (ap (λ (x : Answer Field). x >>= λ f. accept (takenAt bs L f)) (step-same (g .kids-are) (omega (arith, g .size, g .few)) bs L at))
+
+  pub going-took : at < length bs → {t : Taken} → accept t ≡ stepAt bs L count bufs kids at → Turn bs L first heads kids at count bufs t
+  going-took h {t} e =
+      let (f, a, q) = turned-accepted (nodeField bs L (g .ns) at) (takenAt bs L) (e ∙ stepped) in
+      rw (← g .size, ← g .buffered, q) (turn h f a)
+
+  one-less : maxNodes + 1 - count ≡ suc (maxNodes - count)
+  one-less = omega (arith, g .few)
+
+  pub going-no : at < length bs → {r : ℕ} → refuse r ≡ stepAt bs L count bufs kids at → nodesFrom (maxNodes + 1) bs L [] first ≡ refuse r
+  going-no h {r} e = sym (g .same) ∙ rw one-less (nodes-no bs L (g .ns) at (maxNodes - count) h (turned-refused (nodeField bs L (g .ns) at) (takenAt bs L) (e ∙ stepped)))
+
+  pub going-end : length bs ≤ at → nodesFrom (maxNodes + 1) bs L [] first ≡ accept (g .ns)
+  going-end h = sym (g .same) ∙ rw one-less (nodes-end bs L (g .ns) at (maxNodes - count) h)
+
+pub going-start : (bs : List ℕ) (L first : ℕ) {heads kids : List ℕ} → first ≤ length bs → length heads ≡ 256 → kids ≡ replicate 256 0 → Going bs L first heads kids first 0 0
+unfolding buffers
+going-start bs L first h lh ek = record {
+  ns = [];
+  kids-are = kids-none ek;
+  heads-are = record { each = λ j a b. absurd (omega arith) };
+  size = refl;
+  buffered = refl;
+  same = refl;
+  inside = h;
+  few = omega arith;
+  fewer = omega arith;
+  heads-long = lh;
+  kids-long = ap length ek ∙ length-replicate {A = ℕ} 256 0;
+}
+
+-- the loop's answer
+module _ (bs : List ℕ) (L first : ℕ) (heads kids : List ℕ) where
+  pub nodes-refused : {x r : ℕ} → x ≡ r → nodesFrom (maxNodes + 1) bs L [] first ≡ refuse r → NodesRead bs L first (nodes.Refused x) heads kids
+  nodes-refused e h = record {
+    counts = ap refuse e ∙ sym (ap (λ (y : Answer (List Node)). y >>= λ ns. accept (counted ns)) h);
+    few = λ ns q. not-refused (sym h ∙ q);
+    kids-are = λ ns q. not-refused (sym h ∙ q);
+    heads-are = λ ns q. not-refused (sym h ∙ q);
+  }
+
+  pub nodes-read : {at count bufs : ℕ} → (g : Going bs L first heads kids at count bufs) → length bs ≤ at → NodesRead bs L first (nodes.Tree count bufs) heads kids
+  nodes-read g b =
+      let h = going-end g b in
+      record {
+        counts = rw (← g .size, ← g .buffered) (sym (ap (λ (y : Answer (List Node)). y >>= λ ns. accept (counted ns)) h));
+        few = λ ms q. subst (λ (l : List Node). (length l ≤ maxNodes) × (buffers l ≤ maxNodes)) (accept-injective (sym h ∙ q)) (omega (arith, g .size, g .few), omega (arith, g .buffered, g .fewer, g .few));
+        kids-are = λ ms q. subst (λ (l : List Node). Kids l kids) (accept-injective (sym h ∙ q)) (g .kids-are);
+        heads-are = λ ms q. subst (λ (l : List Node). Heads bs L l heads) (accept-injective (sym h ∙ q)) (g .heads-are);
+      }

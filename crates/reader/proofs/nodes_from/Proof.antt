@@ -1,0 +1,150 @@
+-- `nodes_from` is right: at each turn the arrays stand for the nodes read so far, and the definition from here on gives the answer of the whole.
+use borrow.Author.Needs.{needs}
+use Prim.Native.Nat.{_-_}
+use mathlib.Core.Path.{_≡_, sym, ap, _∙_}
+use native.Mathlib.Omega.{arith}
+use lib.ListN.{length, length-set}
+use Rattle.laws.specs.Booleans.{bit-le}
+use Rattle.rules.specs.Tree.{isSink}
+use Rattle.rules.specs.Reading.{refuse}
+use Rattle.reader.specs.Nodes.{Taken, stepTaken, stepRefusal}
+use Rattle.reader.proofs.Loop.{Going, Turn, going-start, going-took, going-no, nodes-refused, nodes-read}
+use Rattle.reader.proofs.nodes_from.Statement.{statement}
+use Rattle.reader.proofs.nodes_from.Tie as tie
+use Rattle.reader.proofs.nodes_from.Reads as reads
+use Rattle.reader.proofs.nodes_from.Lts as lts
+use Rattle.reader.proofs.buffer_bit.Reads as buffer-bit-reads
+use Rattle.reader.proofs.node_at.Reads as node-at-reads
+use Rattle.reader.proofs.sink_places.Reads as sink-places-reads
+use Rattle.reader.proofs.step_refusal.Reads as step-refusal-reads
+
+abbrev Inv-loop : tie.InvT-loop
+Inv-loop net first layers heads₀ kids₀ at₀ count₀ buffers₀ heads kids at count buffers = Going net layers first heads kids at count buffers
+
+abbrev μ-loop : tie.MeasureT-loop
+μ-loop net first layers heads₀ kids₀ at₀ count₀ buffers₀ heads kids at count buffers = length net - at
+
+-- what a step that was taken leaves
+abbrev taken : tie.After-known-told Inv-loop μ-loop → Taken
+taken c = record { node = c .before .step .given .0 .0; next = c .before .step .given .0 .1 .0 }
+
+turn : (c : tie.After-known-told Inv-loop μ-loop)
+    → Turn (c .before .before .before .before .before .before .before .before .before .before .args .net .now) (c .before .before .before .before .before .before .before .before .before .before .args .layers) (c .before .before .before .before .before .before .before .before .before .before .args .first) (c .before .before .before .before .before .before .loop .heads) (c .before .before .before .before .before .before .loop .kids) (c .before .before .before .before .before .before .loop .at) (c .before .before .before .before .before .before .loop .count) (c .before .before .before .before .before .before .loop .buffers) (taken c)
+turn c = going-took (c .before .before .before .before .before .before .loop .inv) (c .before .before .before .before .before .loop-test .taken) (sym (ap stepTaken (c .before .step .given .1)) ∙ c .before .before .before .node-at .ensures)
+
+loop-holds : tie.Need-loop-holds Inv-loop μ-loop
+loop-holds c = going-start _ _ _ (c .before .before .before .pre .1) (c .before .before .before .pre .2) (c .before .before .before .pre .3)
+
+node-at-requires : tie.Need-node-at-requires Inv-loop μ-loop
+node-at-requires c κs = search needs
+
+enum-known-step : tie.Need-enum-known-step Inv-loop μ-loop
+enum-known-step c = search needs
+
+enum-told : tie.Need-enum-told Inv-loop μ-loop
+enum-told c = search needs
+
+step-refusal-requires : tie.Need-step-refusal-requires Inv-loop μ-loop
+step-refusal-requires c κs = search needs
+
+same-length : tie.Need-same-length Inv-loop μ-loop
+same-length c = omega (arith, c .before .before .before .before .before .before .before .before .before .before .pre .2, c .before .before .before .before .before .before .loop .inv .heads-long)
+
+same-length-2 : tie.Need-same-length-2 Inv-loop μ-loop
+same-length-2 c = omega (arith, ap length (c .before .before .before .before .before .before .before .before .before .before .pre .3), c .before .before .before .before .before .before .loop .inv .kids-long)
+
+returns : tie.Need-returns Inv-loop μ-loop
+returns c =
+    nodes-refused _ _ _ _ _ (c .step-refusal .ensures ∙ ap stepRefusal (c .before .enum-told .given .1))
+    (going-no (c .before .before .before .before .before .before .loop .inv) (c .before .before .before .before .before .loop-test .taken) (sym (ap stepTaken (c .before .enum-told .given .1)) ∙ c .before .before .before .node-at .ensures))
+
+mul-kids : tie.Need-mul-kids Inv-loop μ-loop
+mul-kids c = let t = turn c in omega arith
+
+slice-read-kids : tie.Need-slice-read-kids Inv-loop μ-loop
+slice-read-kids c = let t = turn (c .before) in omega arith
+
+add-kids : tie.Need-add-kids Inv-loop μ-loop
+add-kids c = let t = turn (c .before) in omega arith
+
+slice-write-kids : tie.Need-slice-write-kids Inv-loop μ-loop
+slice-write-kids c = let t = turn (c .before) in omega arith
+
+add-count : tie.Need-add-count Inv-loop μ-loop
+add-count c = let t = turn (c .before) in omega arith
+
+sink-places-requires : tie.Need-sink-places-requires Inv-loop μ-loop
+sink-places-requires c κs = search needs
+
+mul-kids-2 : tie.Need-mul-kids-2 Inv-loop μ-loop
+mul-kids-2 c = let t = turn (c .before .before) in omega arith
+
+slice-read-kids-2 : tie.Need-slice-read-kids-2 Inv-loop μ-loop
+slice-read-kids-2 c = let t = turn (c .before .before .before) in simp length-set (omega arith)
+
+add-kids-2 : tie.Need-add-kids-2 Inv-loop μ-loop
+add-kids-2 c = let t = turn (c .before .before .before) in omega (arith, bit-le (isSink (taken (c .before .before .before) .node .kind)))
+
+slice-write-kids-2 : tie.Need-slice-write-kids-2 Inv-loop μ-loop
+slice-write-kids-2 c = let t = turn (c .before .before .before) in simp length-set (omega arith)
+
+mul-heads : tie.Need-mul-heads Inv-loop μ-loop
+mul-heads c = let t = turn (c .before .before .before) in omega arith
+
+slice-write-heads : tie.Need-slice-write-heads Inv-loop μ-loop
+slice-write-heads c = let t = turn (c .before .before .before) in omega arith
+
+buffer-bit-requires : tie.Need-buffer-bit-requires Inv-loop μ-loop
+buffer-bit-requires c κs = search needs
+
+add-buffers : tie.Need-add-buffers Inv-loop μ-loop
+add-buffers c = let t = turn (c .before .before .before .before) in omega (arith, c .buffer-bit .ensures)
+
+loop-less : tie.Need-loop-less Inv-loop μ-loop
+loop-less c = let t = turn (c .before .before .before .before) in omega arith
+
+loop-again : tie.Need-loop-again Inv-loop μ-loop
+loop-again c = rw (c .before .before .sink-places .ensures, c .buffer-bit .ensures) (turn (c .before .before .before .before) .onward)
+
+same-length-3 : tie.Need-same-length-3 Inv-loop μ-loop
+same-length-3 c = omega (arith, c .before .before .before .before .before .pre .2, c .before .loop .inv .heads-long)
+
+same-length-4 : tie.Need-same-length-4 Inv-loop μ-loop
+same-length-4 c = omega (arith, ap length (c .before .before .before .before .before .pre .3), c .before .loop .inv .kids-long)
+
+returns-2 : tie.Need-returns-2 Inv-loop μ-loop
+returns-2 c = nodes-read _ _ _ _ _ (c .before .loop .inv) (c .loop-test .left)
+
+pub nodes-from-spec : {M : Type 1} → statement M
+nodes-from-spec =
+    tie.close
+    (tie.spec
+    Inv-loop
+    μ-loop
+    loop-holds
+    node-at-requires
+    enum-known-step
+    enum-told
+    step-refusal-requires
+    same-length
+    same-length-2
+    returns
+    mul-kids
+    slice-read-kids
+    add-kids
+    slice-write-kids
+    add-count
+    sink-places-requires
+    mul-kids-2
+    slice-read-kids-2
+    add-kids-2
+    slice-write-kids-2
+    mul-heads
+    slice-write-heads
+    buffer-bit-requires
+    add-buffers
+    loop-less
+    loop-again
+    same-length-3
+    same-length-4
+    returns-2)
