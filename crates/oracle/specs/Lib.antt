@@ -1,0 +1,11 @@
+pub mod General
+pub mod Rounding
+pub mod Stages
+pub mod Plans
+pub mod Programme
+pub mod Timing
+pub mod Value
+pub mod ReadOff
+pub mod Rows
+pub mod Table
+pub mod Result

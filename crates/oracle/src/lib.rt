@@ -1,0 +1,1 @@
+// No code: the theory of the search stands in specs/.
