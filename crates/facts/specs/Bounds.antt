@@ -8,8 +8,8 @@ use native.Mathlib.Omega.{arith}
 use native.Mathlib.Nat.{mul-le-mul}
 use lib.ListN.{length}
 use lib.IntN.{ℤ, pos, _-ℤ_}
-use Rattle.laws.specs.Integers.{up, down, pos-view, some-mem, least-mem, minus-up, minus-down}
-use Rattle.laws.specs.Lists.{mem-map, map-mem}
+use Rattle.laws.specs.Integers.{up, down, pos-view, least-mem, minus-up, minus-down}
+use Rattle.laws.specs.Lists.{mem-map, map-mem, some-mem}
 use Rattle.rules.specs.declared.Kind.{Kind}
 use Rattle.rules.specs.declared.Kind.the-variants.{Steiner, Buffer, Sink}
 use Rattle.rules.specs.Tree.{Net, isBuffer, isTerminal, at, isRoot, stages, root, drives, stageOf, terminals, on}

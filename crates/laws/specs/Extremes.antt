@@ -1,6 +1,6 @@
--- The least value of a function over a list, and the largest number that passes a test.
+-- The least and the latest value of a function over a list, and the largest number that passes a test.
 use mathlib.Core.Path.{_≡_, refl, ap, sym, _∙_}
-use mathlib.Core.Bool.{Bool, true, false}
+use mathlib.Core.Bool.{Bool, true, false, cond, _||_}
 use mathlib.Core.Logic.{_⊎_, inl, inr}
 use mathlib.Core.List.{List, [], _∷_, List·Memᴰ, List·Memᴰ·head, List·Memᴰ·tail, List·Memᴰ·not-nil}
 use Prim.Native.Nat.{ℕ, zero, suc, _+_, _≤_, _<_, min}
@@ -8,6 +8,10 @@ use native.Mathlib.Omega.{arith}
 use native.Mathlib.Nat.{le-suc-iff}
 use native.Mathlib.Decide.{decLe}
 use Rattle.laws.specs.Basic.{if_then_else_, lowest1, lowest, largest}
+use lib.IntN.{ℤ, pos}
+use lib.Signed.{leZ}
+use Rattle.laws.specs.Lists.{Some}
+use Rattle.laws.specs.Integers.{le-true, le-false, true-le}
 
 -- the least of the values of f, on a list with a member
 module _ {ℓ} {A : Type ℓ} (f : A → ℕ) where
@@ -70,3 +74,36 @@ largest-is test (suc n) k h t f = go (le-suc-iff .0 h) (λ h. largest-is test n 
     go : (k ≤ n) ⊎ (k ≡ suc n) → (k ≤ n → largest test n ≡ k) → (if test (suc n) then suc n else largest test n) ≡ k
     go (inl a) r = rw (f (suc n) (omega arith) (omega arith)) (r a)
     go (inr e) r = rw (← e, t)
+
+-- A number added to each is added to the least.
+pub lowest-plus {ℓ} : {A : Type ℓ} (a : ℕ) (f : A → ℕ) (xs : List A) → Some xs → lowest (λ x. a + f x) xs ≡ a + lowest f xs
+lowest-plus a f [] s = absurd s
+lowest-plus {A = A} a f (x ∷ xs) s = one x xs
+  where
+    one : (x : A) (xs : List A) → lowest1 (λ x. a + f x) x xs ≡ a + lowest1 f x xs
+    one x [] = refl
+    one x (y ∷ ys) = omega (arith, one y ys)
+
+-- The later of two times.
+abbrev pub maxZ : ℤ → ℤ → ℤ
+maxZ a b = cond (leZ a b) b a
+
+-- The latest value of f over the members of a list (0 for none).
+abbrev pub latest1 {ℓ} : {A : Type ℓ} → (A → ℤ) → A → List A → ℤ
+latest1 f x [] = f x
+latest1 f x (y ∷ ys) = maxZ (f x) (latest1 f y ys)
+
+abbrev pub latest {ℓ} : {A : Type ℓ} → (A → ℤ) → List A → ℤ
+latest f [] = pos 0
+latest f (x ∷ xs) = latest1 f x xs
+
+-- The later of two is no earlier than x just where one of the two is.
+pub le-maxZ : (x a b : ℤ) → leZ x (maxZ a b) ≡ leZ x a || leZ x b
+le-maxZ x a b = go (leZ a b) (leZ x a) (leZ x b) refl refl refl
+  where
+    go : (t u v : Bool) → leZ a b ≡ t → leZ x a ≡ u → leZ x b ≡ v → leZ x (maxZ a b) ≡ leZ x a || leZ x b
+    go true true v e f g = rw (e, f, true-le x b (omega (arith, le-true a b e, le-true x a f)))
+    go true false v e f g = rw (e, f)
+    go false true v e f g = rw (e, f)
+    go false false true e f g = let z : _≡_ {A = ℕ} 0 1 = omega (arith, le-false a b e, le-false x a f, le-true x b g) in cc
+    go false false false e f g = rw (e, f, g)

@@ -10,6 +10,7 @@ use lib.Signed.{leZ}
 use borrow.Author.Tests.{leb-true, leb-false, ltb-true, ltb-false, le-leb, lt-leb}
 use Rattle.laws.specs.Basic.{minZ, leastZ, leastOf}
 use Rattle.laws.specs.Booleans.{and-left, and-right, both}
+use Rattle.laws.specs.Lists.{Some}
 
 -- z is up z - down z
 unfoldable pub up : ℤ → ℕ
@@ -126,11 +127,6 @@ le-self a = true-le a a (omega arith)
 pub same-bounds : (a b : ℤ) → ((x : ℤ) → leZ x a ≡ leZ x b) → a ≡ b
 same-bounds a b h = same-view a b (omega (arith, le-true a b (sym (h a) ∙ le-self a), le-true b a (h b ∙ le-self b)))
 
--- a list with a member
-abbrev pub Some {ℓ} : {A : Type ℓ} → List A → Type 0
-Some [] = ⊥
-Some (x ∷ xs) = Unit
-
 allLe-at : (x : ℤ) (rs : List ℤ) (q : ℤ) → List·Memᴰ q rs → allLe x rs ≡ true → leZ x q ≡ true
 allLe-at x (r ∷ rs) q (List·Memᴰ·head e) t = ap (leZ x) e ∙ and-left (leZ x r) (allLe x rs) t
 allLe-at x (r ∷ rs) q (List·Memᴰ·tail m) t = allLe-at x rs q m (and-right (leZ x r) (allLe x rs) t)
@@ -144,11 +140,6 @@ pub least-members : (rs qs : List ℤ) → Some rs → Some qs → ((z : ℤ) �
 least-members [] qs s t f g = absurd s
 least-members (r ∷ rs) [] s t f g = absurd t
 least-members (r ∷ rs) (q ∷ qs) s t f g = same-bounds (leastZ r rs) (leastZ q qs) (λ x. le-leastZ x r rs ∙ both (allLe x (r ∷ rs)) (allLe x (q ∷ qs)) (allLe-sub x (r ∷ rs) (q ∷ qs) f) (allLe-sub x (q ∷ qs) (r ∷ rs) g) ∙ sym (le-leastZ x q qs))
-
--- A list with a member is not empty.
-pub some-mem {ℓ} : {A : Type ℓ} {x : A} (xs : List A) → List·Memᴰ x xs → Some xs
-some-mem [] m = absurd (List·Memᴰ·not-nil m)
-some-mem (x ∷ xs) m = tt
 
 -- How far a difference can lie above and below 0.
 pub minus-up : (x y : ℤ) → up (x -ℤ y) ≤ up x + down y

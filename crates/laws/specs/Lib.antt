@@ -1,7 +1,8 @@
 pub mod Basic
 pub mod Booleans
-pub mod Integers
 pub mod Lists
-pub mod Extremes
+pub mod First
 pub mod Counting
 pub mod Sums
+pub mod Integers
+pub mod Extremes

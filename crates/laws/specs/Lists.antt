@@ -35,6 +35,31 @@ from-low i zero j h = absurd (List·Memᴰ·not-nil h)
 from-low i (suc m) j (List·Memᴰ·head e) = omega arith
 from-low i (suc m) j (List·Memᴰ·tail h) = omega (arith, from-low (suc i) m j h)
 
+-- a list with a member
+abbrev pub Some {ℓ} : {A : Type ℓ} → List A → Type 0
+Some [] = ⊥
+Some (x ∷ xs) = Unit {0}
+
+pub some-mem {ℓ} : {A : Type ℓ} {x : A} (xs : List A) → List·Memᴰ x xs → Some xs
+some-mem [] m = absurd (List·Memᴰ·not-nil m)
+some-mem (y ∷ ys) m = tt
+
+pub some-map {ℓ κ} : {A : Type ℓ} {B : Type κ} (f : A → B) (xs : List A) → Some xs → Some (map f xs)
+some-map f [] s = s
+some-map f (x ∷ xs) s = tt
+
+pub some-left {ℓ} : {A : Type ℓ} (xs ys : List A) → Some xs → Some (xs ++ ys)
+some-left [] ys s = absurd s
+some-left (x ∷ xs) ys s = tt
+
+pub some-right {ℓ} : {A : Type ℓ} (xs ys : List A) → Some ys → Some (xs ++ ys)
+some-right [] ys s = s
+some-right (x ∷ xs) ys s = tt
+
+pub some-from : (i n : ℕ) → 0 < n → Some (from i n)
+some-from i zero h = absurd (omega arith)
+some-from i (suc n) h = tt
+
 -- maps
 pub map-map {ℓ κ μ} : {A : Type ℓ} {B : Type κ} {C : Type μ} (g : B → C) (f : A → B) (xs : List A) → map g (map f xs) ≡ map (λ x. g (f x)) xs
 map-map g f [] = refl

@@ -1,14 +1,15 @@
 -- Sums over lists: of nothing, of bounded values, of two functions, over the members that pass a test, by classes.
 use mathlib.Core.Path.{_≡_, refl, ap, sym, _∙_}
 use mathlib.Core.Bool.{Bool, true, false}
-use mathlib.Core.List.{List, [], _∷_, map, List·Memᴰ, List·Memᴰ·head, List·Memᴰ·tail}
-use Prim.Native.Nat.{ℕ, zero, suc, _+_, _*_, _≤_, _<_}
+use mathlib.Core.List.{List, [], _∷_, map, List·Memᴰ, List·Memᴰ·head, List·Memᴰ·tail, _++_}
+use Prim.Native.Nat.{ℕ, zero, suc, _+_, _*_, _≤_, _<_, min}
 use native.Mathlib.Omega.{arith}
-use lib.Dec.{eqb}
+use lib.Dec.{eqb, leb}
 use lib.ListN.{length}
 use borrow.Author.Tests.{eqb-true, eqb-false, ne-eqb}
 use Rattle.laws.specs.Basic.{if_then_else_, from, sum, keep}
 use Rattle.laws.specs.Lists.{from-low}
+use Rattle.laws.specs.Booleans.{leb-same}
 
 -- Sums of the values of f over a list.
 pub sum-none {ℓ} : {A : Type ℓ} (f : A → ℕ) (xs : List A) → ((x : A) → List·Memᴰ x xs → f x ≡ 0) → sum (map f xs) ≡ 0
@@ -71,3 +72,23 @@ sum-by-class value class s (x ∷ xs) low =
         ≡ sum (map (λ t. (if eqb (class x) t then value t x else 0) + rest t) ts)
     each [] = refl
     each (t ∷ ts) = omega (arith, first t, each ts)
+
+pub sum-append : (xs ys : List ℕ) → sum (xs ++ ys) ≡ sum xs + sum ys
+sum-append [] ys = omega arith
+sum-append (x ∷ xs) ys = omega (arith, sum-append xs ys)
+
+pub sum-times {ℓ} : {A : Type ℓ} (a : ℕ) (f : A → ℕ) (xs : List A) → sum (map (λ x. a * f x) xs) ≡ a * sum (map f xs)
+sum-times a f [] = omega arith
+sum-times a f (x ∷ xs) = omega (arith, sum-times a f xs)
+
+-- A sum is held against w, which is at most hi: then members above hi may count as hi + 1 (a column that is not there).
+pub capped-sum {ℓ} : {A : Type ℓ} (hi c w : ℕ) (f : A → ℕ) (xs : List A) → w ≤ hi
+    → leb (c + sum (map (λ x. min (f x) (suc hi)) xs)) w ≡ leb (c + sum (map f xs)) w
+capped-sum {A = A} hi c w f xs h =
+    let (u, v) = close xs in
+    leb-same (c + sum (map (λ x. min (f x) (suc hi)) xs)) w (c + sum (map f xs)) w (λ a. omega (arith, v (omega arith))) (omega arith)
+  where
+    close : (xs : List A) → (sum (map (λ x. min (f x) (suc hi)) xs) ≤ sum (map f xs))
+        × (sum (map (λ x. min (f x) (suc hi)) xs) ≤ hi → sum (map (λ x. min (f x) (suc hi)) xs) ≡ sum (map f xs))
+    close [] = (omega arith, λ h. refl)
+    close (x ∷ xs) = let (u, v) = close xs in (omega arith, λ h. omega (arith, v (omega arith)))

@@ -1,4 +1,3 @@
-pub mod General
 pub mod Rounding
 pub mod Stages
 pub mod Plans

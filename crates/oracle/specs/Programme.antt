@@ -11,9 +11,8 @@ use lib.ListN.{length}
 use lib.IntN.{ℤ}
 use borrow.Author.Tests.{eqb-true, eqb-false, ltb-true, ltb-false, lt-ltb, le-ltb}
 use Rattle.laws.specs.Basic.{from, sum, keep, lowest}
-use Rattle.laws.specs.Lists.{mem-from, from-mem, map-same}
-use Rattle.laws.specs.Extremes.{lowest-le, lowest-some}
-use Rattle.oracle.specs.General.{some-from, lowest-plus}
+use Rattle.laws.specs.Lists.{mem-from, from-mem, map-same, some-from}
+use Rattle.laws.specs.Extremes.{lowest-le, lowest-some, lowest-plus}
 use Rattle.oracle.specs.Stages.{StageTree, WellFormed, drivesStage, drivenBy, arrive, reach, driven-mem}
 use Rattle.oracle.specs.Plans.{EachBelow}
 

@@ -14,8 +14,8 @@ use Rattle.laws.specs.Basic.{if_then_else_, from}
 use Rattle.laws.specs.Booleans.{leb-same}
 use Rattle.laws.specs.Lists.{mem-from, from-mem, head-keep, find, find-keep}
 use Rattle.laws.specs.Extremes.{lowest-le, lowest-some}
+use Rattle.laws.specs.First.{find-append, find-map, find-none, find-some}
 use Rattle.rules.specs.Tree.{before, plansOf}
-use Rattle.oracle.specs.General.{find-append, find-map, find-none, find-some}
 use Rattle.oracle.specs.Stages.{StageTree, WellFormed, reach}
 use Rattle.oracle.specs.Plans.{plans-mem}
 use Rattle.oracle.specs.Programme.{reached-self, pendingSum, pending-reach, planCharge, leastCharge, leastCharge-le, least, leastOn, least-is, least-exact}

@@ -13,9 +13,10 @@ use lib.IntN.{ℤ, pos, _+ℤ_, _-ℤ_}
 use lib.Signed.{leZ}
 use borrow.Author.Tests.{leb-true, leb-false, le-leb, lt-leb}
 use Rattle.laws.specs.Basic.{if_then_else_, minZ, leastOf, lowest1, lowest}
-use Rattle.laws.specs.Booleans.{leb-same}
-use Rattle.laws.specs.Integers.{up, down, le-true, le-false, true-le, false-le, adjoint, plus-view, le-minZ, allLe, le-leastZ, Some}
-use Rattle.oracle.specs.General.{leb-min, maxZ, latest1, latest, le-maxZ}
+use Rattle.laws.specs.Booleans.{leb-same, leb-min}
+use Rattle.laws.specs.Integers.{up, down, le-true, le-false, true-le, false-le, adjoint, plus-view, le-minZ, allLe, le-leastZ}
+use Rattle.laws.specs.Extremes.{maxZ, latest1, latest, le-maxZ}
+use Rattle.laws.specs.Lists.{Some}
 use Rattle.oracle.specs.Timing.{late, lateCount, none-late}
 
 -- Times are looked at from lo on: nothing is reached earlier.

@@ -11,10 +11,8 @@ use lib.Dec.{eqb}
 use lib.IntN.{ℤ, pos, _+ℤ_}
 use borrow.Author.Tests.{eqb-true, eq-eqb}
 use Rattle.laws.specs.Basic.{if_then_else_, from, keep}
-use Rattle.laws.specs.Integers.{Some}
-use Rattle.laws.specs.Lists.{mem-from, from-mem, from-low, mem-keep, keep-mem}
+use Rattle.laws.specs.Lists.{mem-from, from-mem, from-low, mem-keep, keep-mem, some-mem, Some}
 use Rattle.rules.specs.Tree.{on, plansOf}
-use Rattle.oracle.specs.General.{some-mem}
 
 -- The numbers of a tree. The delay to a stage is that from the gate input of the stage that drives it, by gate and wire, to its own gate input; it
 -- rests on the layer of the driving stage only. A limit of a stage is a sink's required time less the delay to it from the stage's gate input.

@@ -10,9 +10,9 @@ use lib.Dec.{leb}
 use lib.IntN.{ℤ, pos, _-ℤ_}
 use lib.Signed.{leZ}
 use Rattle.laws.specs.Basic.{from, sum, minZ, lowest}
-use Rattle.laws.specs.Integers.{Some}
-use Rattle.laws.specs.Lists.{from-mem, map-map, map-mem}
-use Rattle.oracle.specs.General.{sum-append, sum-times, some-map, some-left, some-right, some-from, latest}
+use Rattle.laws.specs.Lists.{from-mem, map-map, map-mem, some-map, some-left, some-right, some-from, Some}
+use Rattle.laws.specs.Sums.{sum-append, sum-times}
+use Rattle.laws.specs.Extremes.{latest}
 use Rattle.oracle.specs.Stages.{StageTree, WellFormed, HasTerminal, drivenBy, arrive, driven-mem}
 use Rattle.oracle.specs.Timing.{late, charge, leastAt}
 use Rattle.oracle.specs.Programme.{leastFrom, least, least-is}

@@ -11,11 +11,11 @@ use lib.Seq.{drop-cons}
 use lib.IntN.{ℤ, pos, _-ℤ_}
 use lib.Signed.{leZ}
 use Rattle.laws.specs.Basic.{if_then_else_, from, sum, keep, leastOf}
-use Rattle.laws.specs.Integers.{Some, allLe, le-leastZ, adjoint}
-use Rattle.laws.specs.Lists.{map-map, map-same}
+use Rattle.laws.specs.Integers.{allLe, le-leastZ, adjoint}
+use Rattle.laws.specs.Lists.{map-map, map-same, some-map, some-left, some-right, Some}
+use Rattle.laws.specs.Sums.{sum-append}
 use Rattle.rules.specs.Tree.{on}
 use Rattle.rules.specs.Grain.{rounded}
-use Rattle.oracle.specs.General.{sum-append, some-map, some-left, some-right}
 use Rattle.oracle.specs.Stages.{StageTree, WellFormed, HasTerminal, drivesStage, drivenBy, arrive, reach, driven-mem}
 use Rattle.oracle.specs.Plans.{EachBelow, each-at}
 use Rattle.oracle.specs.Programme.{reached-self, drivenSum, pendingSum, pending-reach, pending-first, planCharge, least}
