@@ -17,6 +17,10 @@ pub length-from : (i n : ℕ) → length (from i n) ≡ n
 length-from i zero = refl
 length-from i (suc n) = ap suc (length-from (suc i) n)
 
+pub from-more : (i n : ℕ) → from i (suc n) ≡ from i n ++ ((i + n) ∷ [])
+from-more i zero = ap (λ (k : ℕ). k ∷ []) (sym (add-zero i))
+from-more i (suc n) = ap (λ (l : List ℕ). i ∷ l) (from-more (suc i) n ∙ ap (λ (k : ℕ). from (suc i) n ++ (k ∷ [])) (omega arith))
+
 pub mem-from : (i n l : ℕ) → i ≤ l → l < i + n → List·Memᴰ l (from i n)
 mem-from i zero l h k = absurd (omega arith)
 mem-from i (suc n) l h k = go (mem-from (suc i) n l) (eq-or-lt-of-le h)

@@ -38,7 +38,7 @@ pub fn node_of(net: &[u8], tag: u64, start: usize, layers: usize) -> Node
 }
 
 // 1 for a buffer, else 0.
-fn buffer_bit(kind: Kind) -> usize
+pub fn buffer_bit(kind: Kind) -> usize
     ensures { λ r. ⌜ r ≡ bit (isBuffer kind) ⌝ }
 {
     match kind {
