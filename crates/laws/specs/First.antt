@@ -53,3 +53,19 @@ first-is test i (suc n) l h k t f = go (eq-or-lt-of-le h) (λ a. first-is test (
     go : (i ≡ l) ⊎ (i < l) → (i < l → find test (from (suc i) n) ≡ some l) → (if test i then some i else find test (from (suc i) n)) ≡ some l
     go (inl e) r = rw (ap test e ∙ t) (ap some e)
     go (inr a) r = rw (f i (omega arith) a) (r a)
+
+-- A list is split by the first member that passes a test: those before it do not pass.
+pub find-split {ℓ} : {A : Type ℓ} (test : A → Bool) {x : A} (xs : List A) → find test xs ≡ some x
+    → (earlier : List A) × (later : List A) × (xs ≡ earlier ++ (x ∷ later)) × ((y : A) → List·Memᴰ y earlier → test y ≡ false)
+find-split test [] e = let z : _≡_ {A = ℕ} 0 1 = cc in absurd (omega arith)
+find-split {A = A} test {x} (y ∷ ys) e = go (test y) refl e (find-split test ys)
+  where
+    go : (b : Bool) → test y ≡ b → (if b then some y else find test ys) ≡ some x
+        → (find test ys ≡ some x → (earlier : List A) × (later : List A) × (ys ≡ earlier ++ (x ∷ later)) × ((z : A) → List·Memᴰ z earlier → test z ≡ false))
+        → (earlier : List A) × (later : List A) × (y ∷ ys ≡ earlier ++ (x ∷ later)) × ((z : A) → List·Memᴰ z earlier → test z ≡ false)
+    go true t e r = ([], ys, cc, λ z m. absurd (List·Memᴰ·not-nil m))
+    go false t e r = let (earlier, later, q, fails) = r e in (y ∷ earlier, later, ap (λ (zs : List A). y ∷ zs) q, λ z m. each earlier fails z m)
+      where
+        each : (earlier : List A) → ((z : A) → List·Memᴰ z earlier → test z ≡ false) → (z : A) → List·Memᴰ z (y ∷ earlier) → test z ≡ false
+        each earlier fails z (List·Memᴰ·head q) = ap test q ∙ t
+        each earlier fails z (List·Memᴰ·tail m) = fails z m

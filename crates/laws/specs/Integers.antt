@@ -10,7 +10,7 @@ use lib.Signed.{leZ}
 use borrow.Author.Tests.{leb-true, leb-false, ltb-true, ltb-false, le-leb, lt-leb}
 use Rattle.laws.specs.Basic.{minZ, leastZ, leastOf}
 use Rattle.laws.specs.Booleans.{and-left, and-right, both}
-use Rattle.laws.specs.Lists.{Some}
+use Rattle.laws.specs.Lists.{Some, some-mem}
 
 -- z is up z - down z
 unfoldable pub up : ℤ → ℕ
@@ -160,3 +160,34 @@ least-mem (x ∷ xs) s = go x xs
         pick : (b : Bool) → List·Memᴰ (leastZ y ys) (y ∷ ys) → List·Memᴰ (cond b x (leastZ y ys)) (x ∷ y ∷ ys)
         pick true m = List·Memᴰ·head refl
         pick false m = List·Memᴰ·tail m
+
+-- A member that is no later than any other is the least.
+pub least-is : (r : ℤ) (xs : List ℤ) → List·Memᴰ r xs → ((q : ℤ) → List·Memᴰ q xs → leZ r q ≡ true) → leastOf xs ≡ r
+least-is r xs m h =
+    let a = le-true r (leastOf xs) (h (leastOf xs) (least-mem xs (some-mem xs m))) in
+    same-view (leastOf xs) r (omega (arith, le-true (leastOf xs) r (least-le xs m)))
+  where
+    least-le : (xs : List ℤ) → List·Memᴰ r xs → leZ (leastOf xs) r ≡ true
+    least-le (x ∷ xs) m = allLe-at (leastZ x xs) (x ∷ xs) r m (sym (le-leastZ (leastZ x xs) x xs) ∙ le-self (leastZ x xs))
+
+-- The lesser of two is no later than either.
+pub min-left : (a b : ℤ) → leZ (minZ a b) a ≡ true
+min-left a b = and-left (leZ (minZ a b) a) (leZ (minZ a b) b) (sym (le-minZ (minZ a b) a b) ∙ le-self (minZ a b))
+
+pub min-right : (a b : ℤ) → leZ (minZ a b) b ≡ true
+min-right a b = and-right (leZ (minZ a b) a) (leZ (minZ a b) b) (sym (le-minZ (minZ a b) a b) ∙ le-self (minZ a b))
+
+pub le-trans : (a b c : ℤ) → leZ a b ≡ true → leZ b c ≡ true → leZ a c ≡ true
+le-trans a b c p q = true-le a c (omega (arith, le-true a b p, le-true b c q))
+
+-- Two delays taken off one after the other.
+pub minus-minus : (x : ℤ) (a b : ℕ) → (x -ℤ pos a) -ℤ pos b ≡ x -ℤ pos (a + b)
+minus-minus x a b = same-view ((x -ℤ pos a) -ℤ pos b) (x -ℤ pos (a + b)) (omega (arith, minus-view x a, minus-view (x -ℤ pos a) b, minus-view x (a + b)))
+
+-- A difference is 0 or more just where what is taken off is no more than what it is taken off from.
+pub zero-minus : (r a : ℤ) → leZ (pos 0) (r -ℤ a) ≡ leZ a r
+zero-minus r a = go (leZ a r) refl
+  where
+    go : (t : Bool) → leZ a r ≡ t → leZ (pos 0) (r -ℤ a) ≡ t
+    go true e = true-le (pos 0) (r -ℤ a) (omega (arith, le-true a r e, add-view r (negℤ a), neg-view a, pos-view 0))
+    go false e = false-le (pos 0) (r -ℤ a) (omega (arith, le-false a r e, add-view r (negℤ a), neg-view a, pos-view 0))

@@ -1,0 +1,43 @@
+-- Demand 3: the plan is near the cheapest. The floor is the grain times V(k): rounding never adds, so it is at most the cost of every plan that meets
+-- timing, and it takes less than one grain off each stage, which the test of k keeps within the share (01, Planning; source 000, section IV.B).
+use mathlib.Core.Path.{_≡_, ap, _∙_}
+use mathlib.Core.Bool.{true}
+use mathlib.Core.Option.{some}
+use mathlib.Core.List.{List}
+use Prim.Native.Nat.{ℕ, _+_, _*_, _^_, _≤_}
+use native.Mathlib.Omega.{arith}
+use native.Mathlib.Nat.{add-zero, mul-le-mul-left, le-of-mul-le-mul-left}
+use Rattle.rules.specs.Tree.{Net, isPlan}
+use Rattle.rules.specs.Timing.{meets, cost}
+use Rattle.rules.specs.Grain.{leastRounded, grainExponent, chosen}
+use Rattle.rules.specs.Planning.{IsFloor}
+use Rattle.facts.specs.Accepted.{Accepted}
+use Rattle.oracle.specs.Value.{exponent, firstPlan}
+use Rattle.oracle.specs.Result
+use Rattle.demands.specs.StageNumbers.{treeOf}
+use Rattle.demands.specs.Same.{cost-same, value-same, exponent-same, first-same}
+use Rattle.demands.specs.Values.{grain-below}
+
+-- Demand 3, for whatever floor is answered: the two bounds on it put the cost within the share of the cost of every plan that meets timing.
+pub floor-near : {n : Net} {p q planCost floor : ℕ} → IsFloor n p q planCost floor → (y : List ℕ) → isPlan n y ≡ true → meets n y ≡ true
+    → q * planCost ≤ (q + p) * cost n y
+floor-near {n} {p} {q} F y plan m = omega (arith, F .near, mul-le-mul-left (q + p) (F .below y plan m))
+
+module _ {n : Net} (A : Accepted n) (p q : ℕ) (x : List ℕ) (is : chosen n (grainExponent n p q) ≡ some x) where
+  -- Demand 3: the grain times V(k), at the grain's k, is a floor for the plan chosen, ..
+  pub chosen-floor : IsFloor n p q (cost n x) (2 ^ grainExponent n p q * leastRounded n (grainExponent n p q))
+  chosen-floor = record {
+    below = grain-below A (grainExponent n p q);
+    near =
+        let first = ap (firstPlan (treeOf n)) (exponent-same A p q) ∙ first-same A (grainExponent n p q) ∙ is in
+        rw (← cost-same A x, ← exponent-same A p q, ← value-same A (exponent (treeOf n) p q)) (Result.near-cheapest (treeOf n) p q x first .1);
+  }
+
+  -- .. so q times its cost is at most (q + p) times the cost of every plan of the net that meets timing.
+  pub near-cheapest : (y : List ℕ) → isPlan n y ≡ true → meets n y ≡ true → q * cost n x ≤ (q + p) * cost n y
+  near-cheapest = floor-near chosen-floor
+
+-- Demand 3 at a share of 0: the plan chosen is the cheapest (01, Rounded cost and the grain).
+pub cheapest : {n : Net} (A : Accepted n) (q : ℕ) → 1 ≤ q → (x : List ℕ) → chosen n (grainExponent n 0 q) ≡ some x
+    → (y : List ℕ) → isPlan n y ≡ true → meets n y ≡ true → cost n x ≤ cost n y
+cheapest A q h x is y p m = le-of-mul-le-mul-left (rw (add-zero q) at (near-cheapest A 0 q x is y p m)) h
