@@ -4,13 +4,16 @@ use mathlib.Core.Bool.{Bool, true, false, _&&_}
 use mathlib.Core.Logic.{_⊎_, inl, inr}
 use mathlib.Core.Option.{Option, none, some}
 use mathlib.Core.List.{List, [], _∷_, _++_, map, head?, append-assoc, List·Memᴰ, List·Memᴰ·head, List·Memᴰ·tail, List·Memᴰ·not-nil}
-use Prim.Native.Nat.{ℕ, zero, suc, _+_, _-_, _≤_, _<_}
+use Prim.Native.Nat.{ℕ, zero, suc, _+_, _*_, _-_, _≤_, _<_}
 use native.Mathlib.Omega.{arith}
 use native.Mathlib.Nat.{eq-or-lt-of-le, add-zero, sub-zero}
 use native.Mathlib.Numerals.{add-one}
-use lib.ListN.{length, getD, length-append}
+use lib.ListN.{length, getD, set, length-append}
+use lib.Seq.{getD-set-same, getD-set-other}
+use lib.Dec.{eqb}
+use borrow.Author.Tests.{eq-eqb, ne-eqb}
 use Rattle.laws.specs.Basic.{if_then_else_, bit, from, all, keep}
-use Rattle.laws.specs.Booleans.{and-left, and-right}
+use Rattle.laws.specs.Booleans.{and-left, and-right, same-or}
 
 -- numbers in order
 pub length-from : (i n : ℕ) → length (from i n) ≡ n
@@ -68,6 +71,11 @@ some-from i (suc n) h = tt
 pub map-map {ℓ κ μ} : {A : Type ℓ} {B : Type κ} {C : Type μ} (g : B → C) (f : A → B) (xs : List A) → map g (map f xs) ≡ map (λ x. g (f x)) xs
 map-map g f [] = refl
 map-map g f (x ∷ xs) = ap (λ ys. g (f x) ∷ ys) (map-map g f xs)
+
+pub map-at {ℓ} : {A : Type ℓ} (f : ℕ → A) (d : A) (i n k : ℕ) → k < n → getD (map f (from i n)) k d ≡ f (i + k)
+map-at f d i zero k h = absurd (omega arith)
+map-at f d i (suc n) zero h = ap f (sym (add-zero i))
+map-at f d i (suc n) (suc k) h = map-at f d (suc i) n k (omega arith) ∙ ap f (omega arith)
 
 pub map-same {ℓ κ} : {A : Type ℓ} {B : Type κ} (f g : A → B) (xs : List A) → ((x : A) → List·Memᴰ x xs → f x ≡ g x) → map f xs ≡ map g xs
 map-same f g [] h = refl
@@ -222,3 +230,11 @@ count-by-number test d (x ∷ xs) entry i h =
         ≡ length (if b then (i ∷ keep (λ j. test (entry j)) (from (suc i) (length xs))) else keep (λ j. test (entry j)) (from (suc i) (length xs)))
     go true e = ap suc e
     go false e = e
+
+-- a number added to an entry
+pub added : (l : List ℕ) (i j x : ℕ) → i < length l → getD (set l i (getD l i 0 + x)) j 0 ≡ getD l j 0 + x * bit (eqb i j)
+added l i j x h = go (same-or i j)
+  where
+    go : (j ≡ i) ⊎ (j ≡ i → ⊥) → getD (set l i (getD l i 0 + x)) j 0 ≡ getD l j 0 + x * bit (eqb i j)
+    go (inl e) = rw e (getD-set-same l i _ 0 h ∙ rw (eq-eqb i i refl) (omega arith))
+    go (inr e) = getD-set-other l i j _ 0 e ∙ rw (ne-eqb i j (λ q. e (sym q))) (omega arith)

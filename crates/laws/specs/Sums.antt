@@ -4,6 +4,7 @@ use mathlib.Core.Bool.{Bool, true, false}
 use mathlib.Core.List.{List, [], _∷_, map, List·Memᴰ, List·Memᴰ·head, List·Memᴰ·tail, _++_}
 use Prim.Native.Nat.{ℕ, zero, suc, _+_, _*_, _≤_, _<_, min}
 use native.Mathlib.Omega.{arith}
+use native.Mathlib.Nat.{add-zero, suc-add, add-suc}
 use lib.Dec.{eqb, leb}
 use lib.ListN.{length}
 use borrow.Author.Tests.{eqb-true, eqb-false, ne-eqb}
@@ -92,3 +93,8 @@ capped-sum {A = A} hi c w f xs h =
         × (sum (map (λ x. min (f x) (suc hi)) xs) ≤ hi → sum (map (λ x. min (f x) (suc hi)) xs) ≡ sum (map f xs))
     close [] = (omega arith, λ h. refl)
     close (x ∷ xs) = let (u, v) = close xs in (omega arith, λ h. omega (arith, v (omega arith)))
+
+-- One number more at the end of a run.
+pub sum-from : (f : ℕ → ℕ) (i m : ℕ) → sum (map f (from i (suc m))) ≡ sum (map f (from i m)) + f (i + m)
+sum-from f i zero = omega (arith, ap f (add-zero i))
+sum-from f i (suc m) = omega (arith, sum-from f (suc i) m, ap f (suc-add i m ∙ sym (add-suc i m)))

@@ -13,7 +13,7 @@ use lib.Seq.{getD-set-same, getD-set-other}
 use borrow.Author.Tests.{lt-ltb, le-ltb, le-leb, lt-leb, eq-eqb, ne-eqb, leb-true, ltb-true}
 use Rattle.laws.specs.Basic.{bit, all, from}
 use Rattle.laws.specs.Booleans.{and-left, and-right, same-or, bit-le}
-use Rattle.laws.specs.Lists.{keep-more, keep-le, length-more, last-is, others-are, map-same, from-mem}
+use Rattle.laws.specs.Lists.{added, keep-more, keep-le, length-more, last-is, others-are, map-same, from-mem}
 use Rattle.rules.specs.Tree.{Node, isSink, isBuffer, node, noNode}
 use Rattle.rules.specs.Bytes.{Field, maxNodes, maxChildren, dueNode, nodeAt, isNode, fieldAt, next}
 use Rattle.rules.specs.Reading.{Answer, accept, refuse, _>>=_, _>>_, _unless_, field, children, buffers, isParent, hasRoom, nodeField, nodesFrom, isWhole}
@@ -51,14 +51,6 @@ node-beyond ns = rw add-one (go ns)
     go : (ms : List Node) → getD ms (length ms) noNode ≡ noNode
     go [] = refl
     go (m ∷ ms) = go ms
-
--- a sum into an entry
-added : (l : List ℕ) (i j x : ℕ) → i < length l → getD (set l i (getD l i 0 + x)) j 0 ≡ getD l j 0 + x * bit (eqb i j)
-added l i j x h = go (same-or i j)
-  where
-    go : (j ≡ i) ⊎ (j ≡ i → ⊥) → getD (set l i (getD l i 0 + x)) j 0 ≡ getD l j 0 + x * bit (eqb i j)
-    go (inl e) = rw e (getD-set-same l i _ 0 h ∙ rw (eq-eqb i i refl) (omega arith))
-    go (inr e) = getD-set-other l i j _ 0 e ∙ rw (ne-eqb i j (λ q. e (sym q))) (omega arith)
 
 -- the places of each node after one node more
 places-none : (j : ℕ) → places [] j ≡ 0

@@ -1,0 +1,3 @@
+pub mod Priced
+pub mod Adding
+pub mod Pricing
