@@ -1,5 +1,6 @@
 // The cost of each stage on each layer, and of a plan (01, Timing rule: cost is the sum of all edge costs on their layers).
 use fields::number;
+use tree::wide;
 ghost use mathlib.Core.Path.{_≡_};
 ghost use mathlib.Core.List.{List};
 ghost use Prim.Native.Nat.{ℕ, _+_, _*_, _<_, _≤_};
@@ -45,13 +46,6 @@ pub fn stage_costs(
         add_costs(net, heads[j], layers, stage[j], costs);
         j += 1;
     }
-}
-
-// A layer number as an index.
-fn wide(layer: u8) -> usize
-    ensures { λ r. ⌜ r ≡ layer ⌝ }
-{
-    layer as usize
 }
 
 // The cost of a plan.

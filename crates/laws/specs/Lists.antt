@@ -174,6 +174,15 @@ all-at f i zero o h e = absurd (omega arith)
 all-at f i (suc m) zero h e = ap f (add-zero i) ∙ and-left (f i) _ e
 all-at f i (suc m) (suc o) h e = ap f (omega arith) ∙ all-at f (suc i) m o (omega arith) (and-right (f i) _ e)
 
+-- a test of each member is one of each entry
+pub all-entries {ℓ} : {A : Type ℓ} (f : A → Bool) (d : A) (xs : List A) → all (map f xs) ≡ all (map (λ k. f (getD xs k d)) (from 0 (length xs)))
+all-entries {A = A} f d xs = ap all (go xs (λ k. getD xs k d) 0 (λ k h. ap (λ (i : ℕ). getD xs i d) (omega arith)))
+  where
+    go : (ys : List A) (entry : ℕ → A) (i : ℕ) → ((k : ℕ) → k < length ys → entry (i + k) ≡ getD ys k d) → map f ys ≡ map (λ k. f (entry k)) (from i (length ys))
+    go [] entry i h = refl
+    go (y ∷ ys) entry i h =
+        cc (ap f (sym (h 0 (omega arith))), ap (λ (k : ℕ). f (entry k)) (add-zero i), go ys entry (suc i) (λ k b. ap entry (omega arith) ∙ h (suc k) (omega arith)))
+
 -- the test of the numbers from k up to n, as a loop makes it
 unfoldable pub scan : (ℕ → Bool) → ℕ → ℕ → Bool
 scan p k n = all (map p (from k (n - k)))

@@ -1,6 +1,7 @@
 // The required time of a plan (01, Timing rule). A stage's required time rests on its terminals, and a buffer's on the stage it drives.
 use rules::Kind;
 use tree::node_at;
+use tree::wide;
 ghost use mathlib.Core.Path.{_≡_};
 ghost use mathlib.Core.Bool.{Bool, true, false, _&&_};
 ghost use Prim.Native.Nat.{ℕ, _≤_, _<_, _^_};
@@ -31,13 +32,6 @@ fn less(time: i64, delay: u64) -> i64
     ensures { λ r. ⌜ r ≡ time -ℤ pos delay ⌝ }
 {
     time - (delay as i64)
-}
-
-// A layer number as an index.
-fn wide(layer: u8) -> usize
-    ensures { λ r. ⌜ r ≡ layer ⌝ }
-{
-    layer as usize
 }
 
 // Whether a node of this kind is a terminal.

@@ -12,6 +12,13 @@ ghost use Rattle.rules.specs.Tree.{at, isBuffer};
 ghost use Rattle.tree.specs.Held.{Held, netOf, recordOf};
 ghost use Rattle.tree.specs.Staged.{Staged};
 
+// A layer number as an index.
+pub fn wide(layer: u8) -> usize
+    ensures { λ r. ⌜ r ≡ layer ⌝ }
+{
+    layer as usize
+}
+
 // Node j of the net.
 pub fn node_at(net: &[u8], heads: &[usize], layers: usize, j: usize) -> Node
     requires { ⌜ ((nodes : ℕ) × Held (now net) (now heads) nodes layers × (1 ≤ j) × (j ≤ nodes)) ⌝ }

@@ -30,7 +30,7 @@ is-terminal-requires : tie.Need-is-terminal-requires
 is-terminal-requires c κs = search needs
 
 returns-2 : tie.Need-returns-2
-returns-2 c =
+returns-2 c = 
     c .is-terminal .ensures ∙
     (ap (λ (r : Node). isTerminal (r .kind)) (c .before .node-at .ensures) ∙ sym (simp (eq-eqb _ _ (c .before .before .if1 .left))))
 

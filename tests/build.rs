@@ -1,0 +1,20 @@
+//! Links `libvorphiel.a` from the folder named by `VORPHIEL_LIB_DIR`, if any call of the library is
+//! to be compared.
+
+use std::env;
+use std::path::Path;
+
+fn main() {
+    println!("cargo:rerun-if-changed=build.rs");
+    println!("cargo:rerun-if-env-changed=VORPHIEL_LIB_DIR");
+    let calls = ["CHECK", "JUDGE", "PLAN"];
+    if !calls.iter().any(|call| env::var_os(format!("CARGO_FEATURE_{call}")).is_some()) {
+        return;
+    }
+    let Ok(folder) = env::var("VORPHIEL_LIB_DIR") else {
+        panic!("VORPHIEL_LIB_DIR must name the folder that holds libvorphiel.a (or build with --no-default-features)");
+    };
+    println!("cargo:rerun-if-changed={}", Path::new(&folder).join("libvorphiel.a").display());
+    println!("cargo:rustc-link-search=native={folder}");
+    println!("cargo:rustc-link-lib=static=vorphiel");
+}

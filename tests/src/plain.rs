@@ -1,0 +1,611 @@
+//! The plain search: document 01 written out, simple and slow.
+//!
+//! It shares no code and no definition with the planner. The words in quotes above a function are the
+//! sentence of 01 that it stands for. All numbers are 128 bits wide, so nothing here can overflow.
+
+// ------------------------------------------------------------------------------------------------
+// 01, The tree and what is left to decide
+// ------------------------------------------------------------------------------------------------
+
+/// A layer's "unit resistance, unit capacitance".
+#[derive(Clone, Debug)]
+pub struct Layer {
+    pub resistance: i128,
+    pub capacitance: i128,
+}
+
+/// "Each node record carries its kind, and each kind has numbers of its own."
+#[derive(Clone, Debug)]
+pub enum Kind {
+    Driver { resistance: i128, intrinsic: i128, arrival: i128 },
+    Steiner,
+    Buffer { capacitance: i128, resistance: i128, intrinsic: i128 },
+    Sink { capacitance: i128, required: i128 },
+}
+
+/// A node with the edge to its parent. The driver has no edge: its parent, length and costs are empty.
+#[derive(Clone, Debug)]
+pub struct Node {
+    pub kind: Kind,
+    pub parent: usize,
+    pub length: i128,
+    pub costs: Vec<i128>,
+    pub children: Vec<usize>,
+}
+
+/// "A net is a tree. Node 0 is the driver."
+#[derive(Clone, Debug)]
+pub struct Net {
+    pub layers: Vec<Layer>,
+    pub nodes: Vec<Node>,
+}
+
+/// "A stage is a driver or buffer (its root)".
+pub fn is_root(net: &Net, node: usize) -> bool {
+    matches!(net.nodes[node].kind, Kind::Driver { .. } | Kind::Buffer { .. })
+}
+
+/// "up to the next buffers or sinks (its terminals)".
+pub fn is_terminal(net: &Net, node: usize) -> bool {
+    matches!(net.nodes[node].kind, Kind::Buffer { .. } | Kind::Sink { .. })
+}
+
+/// "Stage 0 is the driver's; stage i is that of the i-th buffer in file order."
+pub fn roots(net: &Net) -> Vec<usize> {
+    (0..net.nodes.len()).filter(|&node| is_root(net, node)).collect()
+}
+
+/// "There are s stages."
+pub fn stage_count(net: &Net) -> usize {
+    roots(net).len()
+}
+
+/// The stage that a driver or buffer drives.
+pub fn stage_driven_by(net: &Net, root: usize) -> usize {
+    (1..=root).filter(|&node| is_root(net, node)).count()
+}
+
+/// The stage to which the edge above a node belongs: a stage is its root "with all wire below it up to
+/// the next buffers or sinks", so the edge above a buffer belongs to the stage above.
+pub fn stage_of_edge(net: &Net, node: usize) -> usize {
+    let parent = net.nodes[node].parent;
+    if is_root(net, parent) {
+        stage_driven_by(net, parent)
+    } else {
+        stage_of_edge(net, parent)
+    }
+}
+
+/// "A plan is one layer number, from 0, for each stage. A plan of the net has each number below the layer
+/// count. Plans are ordered by stage 0's layer, then stage 1's, and so on." All plans of the net, in order.
+pub fn all_plans(net: &Net) -> Vec<Vec<u8>> {
+    let mut plans = vec![vec![]];
+    for _stage in 0..stage_count(net) {
+        let mut longer = vec![];
+        for plan in &plans {
+            for layer in 0..net.layers.len() {
+                let mut plan: Vec<u8> = plan.clone();
+                plan.push(layer as u8);
+                longer.push(plan);
+            }
+        }
+        plans = longer;
+    }
+    plans
+}
+
+// ------------------------------------------------------------------------------------------------
+// 01, Net bytes and Reading
+// ------------------------------------------------------------------------------------------------
+
+/// "Unit values are 1 to 1,000; layers 1 to 16; lengths 0 to 1,000; costs 1 to 1,000,000; gate resistance
+/// and input capacitance 0 to 100,000; intrinsic delay 0 to 1,000,000,000; times from minus 10^15 to 10^15."
+type Range = (i128, i128);
+const UNIT: Range = (1, 1_000);
+const LENGTH: Range = (0, 1_000);
+const COST: Range = (1, 1_000_000);
+const RESISTANCE: Range = (0, 100_000);
+const CAPACITANCE: Range = (0, 100_000);
+const INTRINSIC: Range = (0, 1_000_000_000);
+const TIME: Range = (-1_000_000_000_000_000, 1_000_000_000_000_000);
+const MOST_LAYERS: usize = 16;
+/// "At most 255 nodes after the driver, at most 64 stages."
+const MOST_NODES_AFTER_DRIVER: usize = 255;
+const MOST_STAGES: usize = 64;
+/// "has at most two children".
+const MOST_CHILDREN: usize = 2;
+
+const TAG_LAYERS: u8 = 1;
+const TAG_DRIVER: u8 = 2;
+const TAG_STEINER: u8 = 3;
+const TAG_BUFFER: u8 = 4;
+const TAG_SINK: u8 = 5;
+
+/// "A net is a run of fields: one tag byte, two bytes of payload length, payload."
+struct Field<'a> {
+    tag: u8,
+    payload: &'a [u8],
+}
+
+/// "In a field: head (1), tag and length (2), payload (1)". Refusal 1: "fewer than three bytes are left where
+/// a field is due, or the payload is not all there. 2: tag not allowed here, or a length that its kind does
+/// not have."
+fn take_field<'a>(bytes: &'a [u8], at: &mut usize, allowed: impl Fn(u8, usize) -> bool) -> Result<Field<'a>, u8> {
+    let rest = &bytes[*at..];
+    if rest.len() < 3 {
+        return Err(1);
+    }
+    let tag = rest[0];
+    let length = big_endian(&rest[1..3]) as usize;
+    if !allowed(tag, length) {
+        return Err(2);
+    }
+    if rest.len() - 3 < length {
+        return Err(1);
+    }
+    *at += 3 + length;
+    Ok(Field { tag, payload: &rest[3..3 + length] })
+}
+
+/// "Numbers are big-endian".
+fn big_endian(bytes: &[u8]) -> i128 {
+    bytes.iter().fold(0, |number, &byte| number * 256 + byte as i128)
+}
+
+/// "the two times are 64-bit two's complement, the rest unsigned".
+fn two_complement_64(bytes: &[u8]) -> i128 {
+    let number = big_endian(bytes);
+    if number < 1 << 63 {
+        number
+    } else {
+        number - (1 << 64)
+    }
+}
+
+/// Cuts the next number of the given width off the front of a payload.
+fn unsigned(payload: &mut &[u8], width: usize) -> i128 {
+    let (number, rest) = payload.split_at(width);
+    *payload = rest;
+    big_endian(number)
+}
+
+/// Cuts the next time off the front of a payload.
+fn time(payload: &mut &[u8]) -> i128 {
+    let (number, rest) = payload.split_at(8);
+    *payload = rest;
+    two_complement_64(number)
+}
+
+/// Refusal "3: a number outside its range."
+fn in_range(number: i128, range: Range) -> Result<i128, u8> {
+    if range.0 <= number && number <= range.1 {
+        Ok(number)
+    } else {
+        Err(3)
+    }
+}
+
+/// "A layers payload has 4 to 64 bytes, a multiple of 4; any other length is refusal 2."
+fn is_layers_head(tag: u8, length: usize) -> bool {
+    tag == TAG_LAYERS && (4..=4 * MOST_LAYERS).contains(&length) && length % 4 == 0
+}
+
+/// The driver's payload: "gate resistance, intrinsic delay, arrival time", widths 4, 4, 8.
+fn is_driver_head(tag: u8, length: usize) -> bool {
+    tag == TAG_DRIVER && length == 16
+}
+
+/// A node's payload: "parent, length, one cost for each layer", widths 2, 2, 4 each; a buffer's has 4, 4, 4
+/// more, a sink's 4, 8.
+fn is_node_head(tag: u8, length: usize, layer_count: usize) -> bool {
+    match tag {
+        TAG_STEINER => length == 4 + 4 * layer_count,
+        TAG_BUFFER => length == 4 + 4 * layer_count + 12,
+        TAG_SINK => length == 4 + 4 * layer_count + 12,
+        _ => false,
+    }
+}
+
+/// "for each layer: unit resistance, unit capacitance".
+fn read_layers(mut payload: &[u8]) -> Result<Vec<Layer>, u8> {
+    let mut layers = vec![];
+    while !payload.is_empty() {
+        let resistance = in_range(unsigned(&mut payload, 2), UNIT)?;
+        let capacitance = in_range(unsigned(&mut payload, 2), UNIT)?;
+        layers.push(Layer { resistance, capacitance });
+    }
+    Ok(layers)
+}
+
+/// "gate resistance, intrinsic delay, arrival time".
+fn read_driver(mut payload: &[u8]) -> Result<Node, u8> {
+    let resistance = in_range(unsigned(&mut payload, 4), RESISTANCE)?;
+    let intrinsic = in_range(unsigned(&mut payload, 4), INTRINSIC)?;
+    let arrival = in_range(time(&mut payload), TIME)?;
+    let kind = Kind::Driver { resistance, intrinsic, arrival };
+    Ok(Node { kind, parent: 0, length: 0, costs: vec![], children: vec![] })
+}
+
+/// Refusal "4: a 256th node after the driver, or a 64th buffer."
+fn too_many(net: &Net, tag: u8) -> Result<(), u8> {
+    if net.nodes.len() - 1 == MOST_NODES_AFTER_DRIVER {
+        return Err(4);
+    }
+    if tag == TAG_BUFFER && stage_count(net) == MOST_STAGES {
+        return Err(4);
+    }
+    Ok(())
+}
+
+/// The numbers of a node record, each in its range (refusal 3). The parent has no range here.
+fn read_node(field: &Field, layer_count: usize) -> Result<Node, u8> {
+    let mut payload = field.payload;
+    let parent = unsigned(&mut payload, 2) as usize;
+    let length = in_range(unsigned(&mut payload, 2), LENGTH)?;
+    let mut costs = vec![];
+    for _layer in 0..layer_count {
+        costs.push(in_range(unsigned(&mut payload, 4), COST)?);
+    }
+    let kind = match field.tag {
+        TAG_STEINER => Kind::Steiner,
+        TAG_BUFFER => Kind::Buffer {
+            capacitance: in_range(unsigned(&mut payload, 4), CAPACITANCE)?,
+            resistance: in_range(unsigned(&mut payload, 4), RESISTANCE)?,
+            intrinsic: in_range(unsigned(&mut payload, 4), INTRINSIC)?,
+        },
+        _ => Kind::Sink {
+            capacitance: in_range(unsigned(&mut payload, 4), CAPACITANCE)?,
+            required: in_range(time(&mut payload), TIME)?,
+        },
+    };
+    Ok(Node { kind, parent, length, costs, children: vec![] })
+}
+
+/// Refusal "5: a bad parent." "A parent has a lower number, is no sink and has at most two children."
+fn good_parent(net: &Net, parent: usize) -> Result<(), u8> {
+    let own_number = net.nodes.len();
+    if parent >= own_number {
+        return Err(5);
+    }
+    if matches!(net.nodes[parent].kind, Kind::Sink { .. }) {
+        return Err(5);
+    }
+    if net.nodes[parent].children.len() == MOST_CHILDREN {
+        return Err(5);
+    }
+    Ok(())
+}
+
+/// "At the end, 6: a childless node that is no sink."
+fn no_childless(net: &Net) -> Result<(), u8> {
+    for node in &net.nodes {
+        if node.children.is_empty() && !matches!(node.kind, Kind::Sink { .. }) {
+            return Err(6);
+        }
+    }
+    Ok(())
+}
+
+/// "First layers, then driver, then nodes 1, 2, ... in order." "Fields are read from the front and the first
+/// fault met decides." "The layers and driver fields are due even in empty input; after them a field is due as
+/// long as a byte is left." In a node's field: "then 4, 3, 5".
+pub fn read(bytes: &[u8]) -> Result<Net, u8> {
+    let mut at = 0;
+    let layers = read_layers(take_field(bytes, &mut at, is_layers_head)?.payload)?;
+    let driver = read_driver(take_field(bytes, &mut at, is_driver_head)?.payload)?;
+    let layer_count = layers.len();
+    let mut net = Net { layers, nodes: vec![driver] };
+    while at < bytes.len() {
+        let field = take_field(bytes, &mut at, |tag, length| is_node_head(tag, length, layer_count))?;
+        too_many(&net, field.tag)?;
+        let node = read_node(&field, layer_count)?;
+        good_parent(&net, node.parent)?;
+        let number = net.nodes.len();
+        net.nodes[node.parent].children.push(number);
+        net.nodes.push(node);
+    }
+    no_childless(&net)?;
+    Ok(net)
+}
+
+// ------------------------------------------------------------------------------------------------
+// 01, Timing rule
+// ------------------------------------------------------------------------------------------------
+
+/// "An edge on layer l has resistance R = length × unit resistance".
+fn edge_resistance(net: &Net, node: usize, layer: usize) -> i128 {
+    net.nodes[node].length * net.layers[layer].resistance
+}
+
+/// "capacitance C = length × unit capacitance".
+fn edge_capacitance(net: &Net, node: usize, layer: usize) -> i128 {
+    net.nodes[node].length * net.layers[layer].capacitance
+}
+
+/// "at a Steiner point or root it is the sum over its children of edge C plus child load".
+fn load_over_children(net: &Net, node: usize, layer: usize) -> i128 {
+    let children = net.nodes[node].children.iter();
+    children.map(|&child| edge_capacitance(net, child, layer) + load(net, child, layer)).sum()
+}
+
+/// "The load at a terminal is its input capacitance"; else as above.
+fn load(net: &Net, node: usize, layer: usize) -> i128 {
+    match net.nodes[node].kind {
+        Kind::Buffer { capacitance, .. } | Kind::Sink { capacitance, .. } => capacitance,
+        Kind::Driver { .. } | Kind::Steiner => load_over_children(net, node, layer),
+    }
+}
+
+/// "Edge delay: R × (C + 2 × load at the lower end)."
+pub fn edge_delay(net: &Net, node: usize, layer: usize) -> i128 {
+    edge_resistance(net, node, layer) * (edge_capacitance(net, node, layer) + 2 * load(net, node, layer))
+}
+
+/// "Gate delay: 2 × gate resistance × load at the root, plus intrinsic delay."
+pub fn gate_delay(net: &Net, root: usize, layer: usize) -> i128 {
+    match net.nodes[root].kind {
+        Kind::Driver { resistance, intrinsic, .. } | Kind::Buffer { resistance, intrinsic, .. } => {
+            2 * resistance * load_over_children(net, root, layer) + intrinsic
+        }
+        Kind::Steiner | Kind::Sink { .. } => panic!("only a root has a gate"),
+    }
+}
+
+/// The terminals below a node of a stage, each with the sum of "the edge delays between".
+pub fn terminals_below(net: &Net, node: usize, layer: usize) -> Vec<(usize, i128)> {
+    let mut found = vec![];
+    for &child in &net.nodes[node].children {
+        let delay = edge_delay(net, child, layer);
+        if is_terminal(net, child) {
+            found.push((child, delay));
+        } else {
+            for (terminal, further) in terminals_below(net, child, layer) {
+                found.push((terminal, delay + further));
+            }
+        }
+    }
+    found
+}
+
+/// "at the root it is the least, over terminals, of the terminal's required time minus gate delay minus the
+/// edge delays between".
+fn required_at_root(net: &Net, plan: &[u8], root: usize) -> i128 {
+    let layer = plan[stage_driven_by(net, root)] as usize;
+    let gate = gate_delay(net, root, layer);
+    let terminals = terminals_below(net, root, layer);
+    let times = terminals.iter().map(|&(terminal, wire)| required_at_terminal(net, plan, terminal) - gate - wire);
+    times.min().expect("every stage has a terminal")
+}
+
+/// "A stage's required time rests on its terminals, and a buffer's on the stage it drives". "A sink's is given."
+fn required_at_terminal(net: &Net, plan: &[u8], terminal: usize) -> i128 {
+    match net.nodes[terminal].kind {
+        Kind::Sink { required, .. } => required,
+        _ => required_at_root(net, plan, terminal),
+    }
+}
+
+/// The driver's arrival time.
+pub fn arrival(net: &Net) -> i128 {
+    match net.nodes[0].kind {
+        Kind::Driver { arrival, .. } => arrival,
+        _ => panic!("node 0 is the driver"),
+    }
+}
+
+/// "The slack is the driver's required time minus its arrival time and may be negative."
+pub fn slack(net: &Net, plan: &[u8]) -> i128 {
+    required_at_root(net, plan, 0) - arrival(net)
+}
+
+/// "A plan meets timing if slack is 0 or more."
+pub fn meets_timing(net: &Net, plan: &[u8]) -> bool {
+    slack(net, plan) >= 0
+}
+
+/// A stage's cost on a layer: its edges' costs there.
+pub fn stage_cost(net: &Net, stage: usize, layer: usize) -> i128 {
+    let edges = (1..net.nodes.len()).filter(|&node| stage_of_edge(net, node) == stage);
+    edges.map(|node| net.nodes[node].costs[layer]).sum()
+}
+
+/// "Cost is the sum of all edge costs on their layers."
+pub fn cost(net: &Net, plan: &[u8]) -> i128 {
+    (1..net.nodes.len()).map(|node| net.nodes[node].costs[plan[stage_of_edge(net, node)] as usize]).sum()
+}
+
+// ------------------------------------------------------------------------------------------------
+// 01, Rounded cost and the grain
+// ------------------------------------------------------------------------------------------------
+
+/// "For k from 0 to 28".
+pub const MOST_K: u32 = 28;
+
+/// "let g = 2^k".
+pub fn grain_size(k: u32) -> i128 {
+    1 << k
+}
+
+/// "A stage's rounded cost is its cost divided by g, rounded down; a plan's is the sum over stages."
+pub fn rounded_cost(stage_costs: &[i128], k: u32) -> i128 {
+    stage_costs.iter().map(|cost| cost / grain_size(k)).sum()
+}
+
+/// What planning asks about the plans of one net that meet timing.
+pub trait Search {
+    /// Does any plan meet timing?
+    fn any(&self) -> bool;
+    /// "V(k) is the least rounded cost of the plans that meet timing."
+    fn least_rounded(&self, k: u32) -> i128;
+    /// "the first in plan order among those that meet timing with rounded cost V(k)".
+    fn first_plan(&self, k: u32) -> Vec<u8>;
+    /// The cost of a plan that meets timing, the cheapest where that one is known.
+    fn known_cost(&self) -> i128;
+}
+
+/// The plans that meet timing, in plan order, each with its stages' costs; and V(k) for each k.
+pub struct Enumeration {
+    meeting: Vec<(Vec<u8>, Vec<i128>)>,
+    least: Vec<i128>,
+}
+
+impl Enumeration {
+    /// Looks at every plan of the net.
+    pub fn new(net: &Net) -> Enumeration {
+        let costs_of = |plan: &[u8]| (0..plan.len()).map(|i| stage_cost(net, i, plan[i] as usize)).collect();
+        let plans = all_plans(net).into_iter().filter(|plan| meets_timing(net, plan));
+        let meeting: Vec<(Vec<u8>, Vec<i128>)> = plans.map(|plan| (plan.clone(), costs_of(&plan))).collect();
+        let least_at = |k| meeting.iter().map(|(_, costs)| rounded_cost(costs, k)).min();
+        let least = (0..=MOST_K).filter_map(least_at).collect();
+        Enumeration { meeting, least }
+    }
+}
+
+impl Search for Enumeration {
+    fn any(&self) -> bool {
+        !self.meeting.is_empty()
+    }
+
+    fn least_rounded(&self, k: u32) -> i128 {
+        self.least[k as usize]
+    }
+
+    fn first_plan(&self, k: u32) -> Vec<u8> {
+        let is_least = |costs: &[i128]| rounded_cost(costs, k) == self.least_rounded(k);
+        let found = self.meeting.iter().find(|(_, costs)| is_least(costs));
+        found.expect("V(k) is the rounded cost of some plan").0.clone()
+    }
+
+    fn known_cost(&self) -> i128 {
+        self.least_rounded(0)
+    }
+}
+
+/// "q × s × (g − 1) ≤ p × g × V(k)".
+pub fn qualifies(s: usize, p: u64, q: u64, k: u32, least: i128) -> bool {
+    q as i128 * s as i128 * (grain_size(k) - 1) <= p as i128 * grain_size(k) * least
+}
+
+/// "With share p/q, the grain is 2^k for the largest k such that ..." "k = 0 always qualifies."
+pub fn grain(search: &dyn Search, s: usize, p: u64, q: u64) -> u32 {
+    let mut from_above = (0..=MOST_K).rev();
+    from_above.find(|&k| qualifies(s, p, q, k, search.least_rounded(k))).expect("k = 0 always qualifies")
+}
+
+/// "Its columns are its length divided by s + 2, rounded down".
+pub fn columns(table_len: usize, s: usize) -> i128 {
+    (table_len / (s + 2)) as i128
+}
+
+// ------------------------------------------------------------------------------------------------
+// 01, Reading, Judging, Planning: the answers
+// ------------------------------------------------------------------------------------------------
+
+/// "Accepted: the counts of nodes (driver included), stages and layers." Refusal 0 stands for accepted; "a
+/// refusal carries its number with all other results 0".
+#[derive(Clone, Copy, Debug, Default, PartialEq)]
+pub struct Checked {
+    pub refusal: u8,
+    pub nodes: u64,
+    pub stages: u64,
+    pub layers: u64,
+}
+
+/// "Accepted: cost and slack, also where slack is negative."
+#[derive(Clone, Copy, Debug, Default, PartialEq)]
+pub struct Judged {
+    pub refusal: u8,
+    pub cost: u64,
+    pub slack: i64,
+}
+
+/// "Accepted: cost and slack, as judging gives them for the plan returned; k, the grain's; and a floor."
+#[derive(Clone, Copy, Debug, Default, PartialEq)]
+pub struct Planned {
+    pub refusal: u8,
+    pub cost: u64,
+    pub slack: i64,
+    pub k: u64,
+    pub floor: u64,
+}
+
+/// Check.
+pub fn check(bytes: &[u8]) -> Checked {
+    match read(bytes) {
+        Err(refusal) => Checked { refusal, ..Default::default() },
+        Ok(net) => Checked {
+            refusal: 0,
+            nodes: net.nodes.len() as u64,
+            stages: stage_count(&net) as u64,
+            layers: net.layers.len() as u64,
+        },
+    }
+}
+
+/// Judging: "1 to 6 of the net; 7, plan length is not s; 8, a layer number not below the layer count."
+pub fn judge(bytes: &[u8], plan: &[u8]) -> Judged {
+    match read(bytes) {
+        Err(refusal) => Judged { refusal, ..Default::default() },
+        Ok(net) => judge_net(&net, plan),
+    }
+}
+
+/// Judging, once the net is read.
+pub fn judge_net(net: &Net, plan: &[u8]) -> Judged {
+    if plan.len() != stage_count(net) {
+        return Judged { refusal: 7, ..Default::default() };
+    }
+    if plan.iter().any(|&layer| layer as usize >= net.layers.len()) {
+        return Judged { refusal: 8, ..Default::default() };
+    }
+    Judged { refusal: 0, cost: narrow(cost(net, plan)), slack: narrow(slack(net, plan)) }
+}
+
+/// Planning by looking at every plan.
+#[allow(dead_code)]
+pub fn plan(bytes: &[u8], p: u64, q: u64, table: &mut [i64], buffer: &mut [u8]) -> Planned {
+    match read(bytes) {
+        Err(refusal) => Planned { refusal, ..Default::default() },
+        Ok(net) => plan_net(&net, &Enumeration::new(&net), p, q, table, buffer),
+    }
+}
+
+/// Planning, once the net is read: "9, p above 1,000 or q outside 1 to 1,000; 10, plan buffer shorter than s; 11,
+/// no plan meets timing; 12, fewer than V(k) + 1 columns. Each is given just where its condition is the first to
+/// hold." "The plan's s bytes open the buffer; later bytes keep their values. The table is all zero after
+/// acceptance and after 12, and unchanged after 1 to 11." The floor given here is g × V(k), one that is permitted.
+pub fn plan_net(net: &Net, search: &dyn Search, p: u64, q: u64, table: &mut [i64], buffer: &mut [u8]) -> Planned {
+    let s = stage_count(net);
+    if p > 1_000 || !(1..=1_000).contains(&q) {
+        return Planned { refusal: 9, ..Default::default() };
+    }
+    if buffer.len() < s {
+        return Planned { refusal: 10, ..Default::default() };
+    }
+    if !search.any() {
+        return Planned { refusal: 11, ..Default::default() };
+    }
+    let k = grain(search, s, p, q);
+    let least = search.least_rounded(k);
+    if columns(table.len(), s) < least + 1 {
+        table.fill(0);
+        return Planned { refusal: 12, ..Default::default() };
+    }
+    let plan = search.first_plan(k);
+    buffer[..s].copy_from_slice(&plan);
+    table.fill(0);
+    let judged = judge_net(net, &plan);
+    let floor = narrow(grain_size(k) * least);
+    Planned { refusal: 0, cost: judged.cost, slack: judged.slack, k: k as u64, floor }
+}
+
+/// "The floor is at most the cost of every plan of the net that meets timing, and q × cost is at most (q + p) ×
+/// floor." `cheapest` is the cost of the cheapest plan that meets timing.
+pub fn permitted_floor(p: u64, q: u64, cost: u64, floor: u64, cheapest: i128) -> bool {
+    floor as i128 <= cheapest && q as i128 * cost as i128 <= (q as i128 + p as i128) * floor as i128
+}
+
+/// Results have 64 bits.
+fn narrow<T: TryFrom<i128>>(number: i128) -> T {
+    T::try_from(number).ok().expect("every result of a net fits 64 bits")
+}
