@@ -2,15 +2,17 @@
 use mathlib.Core.Path.{_≡_, refl, ap, sym, _∙_}
 use mathlib.Core.Bool.{Bool, true, false, not, cond, _&&_, and-true}
 use mathlib.Core.List.{List, [], _∷_, _++_, List·Memᴰ, List·Memᴰ·head, List·Memᴰ·tail, List·Memᴰ·not-nil}
-use Prim.Native.Nat.{ℕ, zero, suc, _+_, _-_, _≤_, _<_, min}
+use Prim.Native.Nat.{ℕ, zero, suc, _+_, _-_, _≤_, _<_, min, _^_}
 use native.Mathlib.Omega.{arith}
 use lib.Dec.{leb, ltb}
 use lib.IntN.{ℤ, pos, negsuc, subℕ, _+ℤ_, _-ℤ_, negℤ}
-use lib.Signed.{leZ}
+use lib.Signed.{leZ, ltZ}
 use borrow.Author.Tests.{leb-true, leb-false, ltb-true, ltb-false, le-leb, lt-leb}
 use Rattle.laws.specs.Basic.{minZ, leastZ, leastOf}
 use Rattle.laws.specs.Booleans.{and-left, and-right, both}
 use Rattle.laws.specs.Lists.{Some, some-mem}
+use mir.Syntax.{w64}
+use mir.Val.{SFits}
 
 -- z is up z - down z
 unfoldable pub up : ℤ → ℕ
@@ -191,3 +193,29 @@ zero-minus r a = go (leZ a r) refl
     go : (t : Bool) → leZ a r ≡ t → leZ (pos 0) (r -ℤ a) ≡ t
     go true e = true-le (pos 0) (r -ℤ a) (omega (arith, le-true a r e, add-view r (negℤ a), neg-view a, pos-view 0))
     go false e = false-le (pos 0) (r -ℤ a) (omega (arith, le-false a r e, add-view r (negℤ a), neg-view a, pos-view 0))
+
+-- What fits signed 64 bits.
+pub fits-parts : (z : ℤ) → up z < 2 ^ 63 → down z < 2 ^ 63 → SFits w64 z
+unfolding up down
+fits-parts (pos x) h k = record { sfits = omega arith }
+fits-parts (negsuc x) h k = record { sfits = omega arith }
+
+-- A time and a delay added.
+pub plus-up : (x : ℤ) (d : ℕ) → up (x +ℤ pos d) ≤ up x + d
+plus-up x d = omega (arith, plus-view x d, thin x, thin (x +ℤ pos d))
+
+pub plus-down : (x : ℤ) (d : ℕ) → down (x +ℤ pos d) ≤ down x
+plus-down x d = omega (arith, plus-view x d, thin x, thin (x +ℤ pos d))
+
+-- One time is before another just where the other is not at most the one.
+pub lt-true : (a b : ℤ) → ltZ a b ≡ true → leZ b a ≡ false
+lt-true (pos a) (pos b) e = lt-leb b a (ltb-true a b e)
+lt-true (pos a) (negsuc b) e = cc
+lt-true (negsuc a) (pos b) e = refl
+lt-true (negsuc a) (negsuc b) e = lt-leb a b (ltb-true b a e)
+
+pub lt-false : (a b : ℤ) → ltZ a b ≡ false → leZ b a ≡ true
+lt-false (pos a) (pos b) e = le-leb b a (ltb-false a b e)
+lt-false (pos a) (negsuc b) e = refl
+lt-false (negsuc a) (pos b) e = cc
+lt-false (negsuc a) (negsuc b) e = le-leb a b (ltb-false b a e)

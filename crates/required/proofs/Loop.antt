@@ -22,7 +22,8 @@ use Rattle.facts.specs.Stages.{TerminalOf, climb-root, root-drives, root-is-buf
 use Rattle.facts.specs.Words.{sink-time, buffer-time}
 use Rattle.tree.specs.Held.{Held, netOf, held-accepted}
 use Rattle.tree.specs.Staged.{stageBelow}
-use Rattle.required.specs.Timed.{delayTo, Timed}
+use Rattle.delays.specs.Delayed.{delayTo}
+use Rattle.required.specs.Timed.{Timed}
 use Rattle.required.specs.Scan.{Scan, askedBy, scan-start, scan-skip, scan-take, scan-end, asked-is, asked-fits, delay-small}
 
 below-root : (n : Net) (i : ℕ) → isRoot n i ≡ true → stageBelow n i ≡ drives n i

@@ -21,7 +21,7 @@ use Rattle.facts.specs.Stages.{EdgeOf, TerminalOf, terminal-mem, mem-terminal, 
 use Rattle.facts.specs.Words.{asked, required-is}
 use Rattle.facts.specs.Bounds.{RequiredIn, terminal-in, asked-in}
 use Rattle.facts.specs.Fits.{halfRange, fits-signed, bounded-fits, delay-fits}
-use Rattle.required.specs.Timed.{delayTo}
+use Rattle.delays.specs.Delayed.{delayTo}
 
 -- what terminal j asks of the root of stage t under plan x
 unfoldable pub askedBy : Net → List ℕ → ℕ → ℕ → ℤ

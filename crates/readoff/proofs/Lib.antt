@@ -1,0 +1,5 @@
+pub mod Columns
+pub mod Needs
+pub mod Layers
+pub mod Times
+pub mod Plan

@@ -1,0 +1,238 @@
+-- Reading the plan, stage after stage: what is read so far, and then what the definition reads from the times now, is the whole plan; what is left to
+-- pay stays within the columns, and no time leaves its bounds.
+use mathlib.Core.Path.{_≡_, refl, ap, _∙_}
+use mathlib.Core.Bool.{Bool, true, false}
+use mathlib.Core.List.{List, [], _∷_, _++_, append-assoc, append-nil}
+use Prim.Native.Nat.{ℕ, zero, suc, _+_, _*_, _-_, _≤_, _<_}
+use native.Mathlib.Omega.{arith}
+use native.Mathlib.Nat.{sub-zero}
+use native.Mathlib.Numerals.{add-one}
+use lib.Dec.{eqb}
+use lib.IntN.{ℤ, pos}
+use lib.ListN.{length, getD, drop, set, length-set}
+use lib.Seq.{drop-cons, set-at, getD-set-same}
+use lib.Signed.{leZ}
+use borrow.Author.Tests.{eqb-false, ltb-true, lt-ltb}
+use Rattle.laws.specs.Basic.{if_then_else_}
+use Rattle.laws.specs.Lists.{length-more}
+use Rattle.laws.specs.Integers.{up, down, plus-up, plus-down}
+use Rattle.rules.specs.Bytes.{maxTime}
+use Rattle.oracle.specs.Stages.{StageTree, arrive, reach}
+use Rattle.oracle.specs.Programme.{isReached, reached-self, leastCharge, least-of-all}
+use Rattle.oracle.specs.Timing.{charge}
+use Rattle.oracle.specs.ReadOff.{firstLayer, readOff, read-least, read-step}
+use Rattle.oracle.specs.Result.{treeLeast, readPlan}
+use Rattle.readoff.specs.Laid.{onLayer, maxDelay, Laid}
+use Rattle.readoff.specs.Contracts.{Near, arriveAt, timeAt, Sized, Finished, Layer, PushIn, Pushed, PlanRead}
+use Rattle.readoff.proofs.Needs.{later}
+use Rattle.readoff.proofs.Times.{pushed-reach}
+
+-- How far from 0 a time can lie after i delays.
+abbrev Bounded : ℕ → ℤ → Type 0
+Bounded i t = (up t ≤ maxTime + maxDelay * i) × (down t ≤ maxTime)
+
+-- The stages before i are read into `plan`, whose bytes were `before`.
+pub record Going (T : StageTree) (k : ℕ) (lo : ℤ) (width : ℕ) (before : List ℕ) (times : List ℤ) (plan : List ℕ) (i : ℕ) : Type 0 where
+  -- the times of the definition, and the layers read
+  pub reached : ℕ → ℤ
+  pub layers-read : List ℕ
+  pub count : length layers-read ≡ i
+  pub plan-is : plan ≡ layers-read ++ drop i before
+  pub whole : readPlan T k (width - 1) ≡ layers-read ++ readOff T (charge T k (width - 1)) (T .stages - i) i reached
+  pub left : leastCharge T (charge T k (width - 1)) (T .stages - i) i reached < width
+  pub agree : (j : ℕ) → i ≤ j → j < T .stages → isReached T i j ≡ true → timeAt times j ≡ reached j
+  pub from-lo : (j : ℕ) → i ≤ j → j < T .stages → isReached T i j ≡ true → leZ lo (reached j) ≡ true
+
+-- The invariant of the loop: bounds that hold for the tree in the slices, and the meaning for every tree that they hold.
+pub record Reading (table : List ℤ) (driver delay : List ℕ) (limit : List ℤ) (cost : List ℕ) (stages layers width g : ℕ) (arrival : ℤ) (before-times : List ℤ)
+    (before : List ℕ) (times : List ℤ) (plan : List ℕ) (i : ℕ) : Type 0 where
+  pub inside : i ≤ stages
+  pub times-long : length times ≡ length before-times
+  pub plan-long : length plan ≡ length before
+  pub bounded : (j : ℕ) → i ≤ j → j < stages → (0 < j → getD driver j 0 < i) → Bounded i (timeAt times j)
+  pub is : (T : StageTree) (k : ℕ) (lo : ℤ) → Finished T k lo table driver delay limit cost stages width g → layers ≡ T .layers → arrival ≡ T .arrival
+      → leZ lo (T .arrival) ≡ true → treeLeast T k (width - 1) < width → Going T k lo width before times plan i
+
+-- At the start stage 0 alone is reached.
+pub reading-start : {table : List ℤ} {driver delay : List ℕ} {limit : List ℤ} {cost : List ℕ} {stages layers width g : ℕ} {arrival : ℤ} {before : List ℕ}
+    (lent : List ℤ) (T : StageTree) → Sized T table driver delay limit cost stages width g → arrival ≡ T .arrival → stages ≤ length lent
+    → Reading table driver delay limit cost stages layers width g arrival (set lent 0 arrival) before (set lent 0 arrival) before 0
+reading-start {driver = driver} {width = width} {arrival = arrival} lent T S e long = record {
+  inside = omega arith;
+  times-long = refl;
+  plan-long = refl;
+  bounded = λ j a b driven. bounded j driven;
+  is = λ T k lo F el ea from-lo small. record {
+    reached = λ j. T .arrival;
+    layers-read = [];
+    count = refl;
+    plan-is = refl;
+    whole = rw sub-zero;
+    left = rw sub-zero (omega (arith, least-of-all T (charge T k (width - 1)) (F .sized .tree) (λ j. T .arrival)));
+    agree = λ j a b r. agree T j r ∙ ea;
+    from-lo = λ j a b r. from-lo;
+  };
+}
+  where
+    written : timeAt (set lent 0 arrival) 0 ≡ arrival
+    written = getD-set-same lent 0 arrival (pos 0) (omega (arith, S .tree .some-stage, S .stages-are))
+
+    bounded : (j : ℕ) → (0 < j → getD driver j 0 < 0) → Bounded 0 (timeAt (set lent 0 arrival) j)
+    bounded zero driven = rw (written, e) (omega (arith, S .laid .arrival-most), omega (arith, S .laid .arrival-most))
+    bounded (suc j) driven = absurd (omega (arith, driven (omega arith)))
+
+    agree : (T : StageTree) (j : ℕ) → isReached T 0 j ≡ true → timeAt (set lent 0 arrival) j ≡ arrival
+    agree T zero r = written
+    agree T (suc j) r = absurd (omega (arith, ltb-true (T .driver (suc j)) 0 r))
+
+module _ {table : List ℤ} {driver delay : List ℕ} {limit : List ℤ} {cost : List ℕ} {stages layers width g : ℕ} {arrival : ℤ} {before-times : List ℤ} {before : List ℕ} where
+  module _ {times : List ℤ} {plan : List ℕ} {i : ℕ} (here : Reading table driver delay limit cost stages layers width g arrival before-times before times plan i)
+      (h : i < stages) where
+    -- Stage i is reached, so its time is not far from 0.
+    reading-bounded : (T : StageTree) → Sized T table driver delay limit cost stages width g → Bounded i (timeAt times i)
+    reading-bounded T S = here .bounded i (omega arith) h (λ some. lower i some (omega (arith, S .stages-are)))
+      where
+        lower : (j : ℕ) → 0 < j → j < T .stages → getD driver j 0 < j
+        lower zero some inside = absurd (omega arith)
+        lower (suc j) some inside = omega (arith, S .laid .driver-at (suc j) some inside, S .tree .lower j)
+
+    pub reading-near : (T : StageTree) → Sized T table driver delay limit cost stages width g → Near (timeAt times i)
+    reading-near T S = let (a, b) = reading-bounded T S in (omega (arith, S .laid .few-stages, S .stages-are), omega arith)
+
+    -- What passing the time on asks.
+    pub push-in : (T : StageTree) → Sized T table driver delay limit cost stages width g → layers ≡ T .layers → stages ≤ length before-times → {l : ℕ} → l < layers
+        → PushIn driver delay times stages i l
+    push-in T S e long {l} small =
+        let L = S .laid in
+        record {
+          inside = h;
+          times-long = omega (arith, here .times-long);
+          driver-long = omega (arith, L .driver-long, S .stages-are);
+          delay-long = omega (arith, L .delay-long, S .stages-are);
+          layer-inside = omega (arith, L .few-layers);
+          delay-most = λ j a b.
+              let low : j < T .stages = omega (arith, S .stages-are) in
+              omega (arith, L .delay-at j l (omega arith) low (omega arith), L .delay-most j l (omega arith) low (omega arith));
+          near = reading-near T S;
+        }
+
+    module _ {l : ℕ} {after : List ℤ} (N : Layer table driver delay limit cost stages layers width g i (timeAt times i) l) (P : Pushed driver delay times stages i l after) where
+      bounded-more : (T : StageTree) → Sized T table driver delay limit cost stages width g → layers ≡ T .layers
+          → (j : ℕ) → i + 1 ≤ j → j < stages → (0 < j → getD driver j 0 < i + 1) → Bounded (i + 1) (timeAt after j)
+      bounded-more T S e j a b driven = rw (P .is j (omega arith) b) (go (eqb (getD driver j 0) i) refl)
+        where
+          L : Laid T driver delay limit cost
+          L = S .laid
+
+          most : onLayer delay j l ≤ maxDelay
+          most =
+              let low : j < T .stages = omega (arith, S .stages-are) in
+              omega (arith, N .most, L .delay-at j l (omega arith) low (omega (arith, N .most)), L .delay-most j l (omega arith) low (omega (arith, N .most)))
+
+          go : (b : Bool) → eqb (getD driver j 0) i ≡ b → Bounded (i + 1) (if b then arriveAt delay j l (timeAt times i) else timeAt times j)
+          go true q =
+              let (u, v) = reading-bounded T S in
+              (omega (arith, plus-up (timeAt times i) (onLayer delay j l), most), omega (arith, plus-down (timeAt times i) (onLayer delay j l)))
+          go false q =
+              let other = eqb-false (getD driver j 0) i q in
+              let (u, v) = here .bounded j (omega arith) b (λ some. omega (arith, driven some)) in
+              (omega arith, omega arith)
+
+      module _ (T : StageTree) (k : ℕ) (lo : ℤ) (F : Finished T k lo table driver delay limit cost stages width g) (el : layers ≡ T .layers)
+          (G : Going T k lo width before times plan i) (long : stages ≤ length before) where
+        abbrev c : ℕ → ℕ → ℤ → ℕ
+        c = charge T k (width - 1)
+
+        abbrev n : ℕ
+        n = T .stages - suc i
+
+        abbrev first : ℕ
+        first = firstLayer T c i (G .reached i)
+
+        abbrev onward : ℕ → ℤ
+        onward = reach T i first (G .reached)
+
+        low : i < T .stages
+        low = omega (arith, F .sized .stages-are)
+
+        steps : T .stages - i ≡ suc n
+        steps = omega (arith, low)
+
+        total : i + suc n ≡ T .stages
+        total = omega (arith, low)
+
+        left : leastCharge T c (suc n) i (G .reached) < width
+        left = rw steps at (G .left)
+
+        -- The time in the slice is that of the definition, and so is the layer.
+        self : isReached T i i ≡ true
+        self = reached-self T (F .sized .tree) i
+
+        now-reached : timeAt times i ≡ G .reached i
+        now-reached = G .agree i (omega arith) low self
+
+        layer-is : l ≡ first
+        layer-is =
+            rw now-reached at (N .is T k lo F el (rw now-reached (G .from-lo i (omega arith) low self))
+            (rw now-reached (omega (arith, read-least T c (F .sized .tree) n i (G .reached) total, left))))
+
+        -- A stage that stage i does not drive and that is reached now was reached before.
+        reached-before : (j : ℕ) → i < j → isReached T (suc i) j ≡ true → eqb (T .driver j) i ≡ false → isReached T i j ≡ true
+        reached-before zero a r q = absurd (omega arith)
+        reached-before (suc j) a r q =
+            let d = ltb-true (T .driver (suc j)) (suc i) r in
+            let other = eqb-false (T .driver (suc j)) i q in
+            lt-ltb (T .driver (suc j)) i (omega arith)
+
+        agree-more : (j : ℕ) → i < j → j < T .stages → isReached T (suc i) j ≡ true → timeAt after j ≡ onward j
+        agree-more j a b r =
+            pushed-reach (F .sized .laid) (F .sized .stages-are) (omega (arith, N .most)) P j a b ∙ rw layer-is (go (eqb (T .driver j) i) refl)
+          where
+            go : (t : Bool) → eqb (T .driver j) i ≡ t
+                → (if t then arrive T j first (timeAt times i) else timeAt times j) ≡ (if t then arrive T j first (G .reached i) else G .reached j)
+            go true q = ap (arrive T j first) now-reached
+            go false q = G .agree j (omega arith) b (reached-before j a r q)
+
+        later-more : (j : ℕ) → i < j → j < T .stages → isReached T (suc i) j ≡ true → leZ lo (onward j) ≡ true
+        later-more j a b r = go (eqb (T .driver j) i) refl
+          where
+            go : (t : Bool) → eqb (T .driver j) i ≡ t → leZ lo (if t then arrive T j first (G .reached i) else G .reached j) ≡ true
+            go true q = later (G .reached i) (T .delay j first) lo (G .from-lo i (omega arith) low self)
+            go false q = G .from-lo j (omega arith) b (reached-before j a r q)
+
+        going-more : length plan ≡ length before → Going T k lo width before after (set plan i l) (suc i)
+        going-more same = record {
+          reached = onward;
+          layers-read = G .layers-read ++ (first ∷ []);
+          count = length-more (G .layers-read) first ∙ omega (arith, G .count);
+          plan-is =
+              ap (λ p. set p i l) (G .plan-is ∙ ap (λ q. G .layers-read ++ q) (drop-cons before i 0 (omega arith)))
+              ∙ set-at (G .layers-read) (getD before i 0) (drop (suc i) before) l i (G .count)
+              ∙ rw (layer-is, append-assoc);
+          whole = G .whole ∙ rw (steps, append-assoc);
+          left = omega (arith, read-step T c (F .sized .tree) n i (G .reached) total, left);
+          agree = agree-more;
+          from-lo = later-more;
+        }
+
+      pub reading-more : (T : StageTree) → Sized T table driver delay limit cost stages width g → layers ≡ T .layers → stages ≤ length before
+          → length after ≡ length times → Reading table driver delay limit cost stages layers width g arrival before-times before after (set plan i l) (i + 1)
+      reading-more T S e long same = record {
+        inside = omega arith;
+        times-long = same ∙ here .times-long;
+        plan-long = length-set plan i l ∙ here .plan-long;
+        bounded = bounded-more T S e;
+        is = λ T k lo F el ea from-lo small. rw add-one (going-more T k lo F el (here .is T k lo F el ea from-lo small) long (here .plan-long));
+      }
+
+  -- At the end the plan is whole.
+  pub reading-end : {times : List ℤ} {plan : List ℕ} {i : ℕ} → Reading table driver delay limit cost stages layers width g arrival before-times before times plan i
+      → stages ≤ i → PlanRead table driver delay limit cost stages layers width g arrival before plan
+  reading-end {times} {plan} {i} here h = record {
+    is = λ T k lo F el ea from-lo small.
+        let G = here .is T k lo F el ea from-lo small in
+        let end : i ≡ stages = omega (arith, here .inside) in
+        let none : T .stages - i ≡ 0 = omega (arith, F .sized .stages-are) in
+        let w : readPlan T k (width - 1) ≡ G .layers-read = G .whole ∙ rw (none, append-nil) in
+        G .plan-is ∙ rw (end, w);
+  }

@@ -1,0 +1,113 @@
+-- `need_on` is right: it adds the rounded cost and what the stages driven need, up to one more than the budgets; a late sink is above them all.
+use borrow.Author.Needs.{needs}
+use mathlib.Core.Path.{_≡_}
+use native.Mathlib.Omega.{arith}
+use Prim.Native.Nat.{_-_, _+_, _*_}
+use lib.IntN.{ℤ, pos}
+use lib.ListN.{getD}
+use borrow.Author.Needs.{sfits-of}
+use mir.Facts.{toZ-ofZ}
+use mir.Syntax.{w64}
+use mir.Val.{toZ, ofZ}
+use Rattle.rules.specs.Bytes.{maxLayers}
+use Rattle.readoff.proofs.Needs.{Adding, driven-in, adding-start, adding-more, adding-fits, adding-end, need-late}
+use Rattle.readoff.proofs.need_on.Statement.{statement}
+use Rattle.readoff.proofs.need_on.Tie as tie
+use Rattle.readoff.proofs.need_on.Reads as reads
+use Rattle.readoff.proofs.need_on.Lts as lts
+use Rattle.readoff.proofs.driven_need.Reads as driven-need-reads
+
+abbrev Inv-loop : tie.InvT-loop
+Inv-loop table driver delay limit cost stages width g i l t at last need₀ j₀ need j = Adding table driver delay limit cost stages width g i l (toZ w64 t) need j
+
+abbrev μ-loop : tie.MeasureT-loop
+μ-loop table driver delay limit cost stages width g i l t at last need₀ j₀ need j = stages - j
+
+-- the limit that is compared
+abbrev last : tie.After-last Inv-loop μ-loop → ℤ
+last c = getD (c .before .before .before .before .args .limit .now) (c .before .before .before .before .args .i * maxLayers + c .before .before .before .before .args .l) (pos 0)
+
+last-is : (c : tie.After-last Inv-loop μ-loop) → toZ w64 (ofZ w64 (last c)) ≡ last c
+last-is c = toZ-ofZ (sfits-of (c .last .given))
+
+mul-at : tie.Need-mul-at Inv-loop μ-loop
+mul-at c = search needs
+
+add-at : tie.Need-add-at Inv-loop μ-loop
+add-at c = search needs
+
+mul-last : tie.Need-mul-last Inv-loop μ-loop
+mul-last c = search needs
+
+shared-slice-copy-out-last : tie.Need-shared-slice-copy-out-last Inv-loop μ-loop
+shared-slice-copy-out-last c = search needs
+
+returns : tie.Need-returns Inv-loop μ-loop
+returns c =
+    let s = c .before .before .before .before .before in
+    need-late (s .pre .1) (s .pre .2) (rw (last-is (c .before), toZ-ofZ (s .fits .t)) at (c .if1 .taken))
+
+mul-need : tie.Need-mul-need Inv-loop μ-loop
+mul-need c = search needs
+
+shared-slice-read-need : tie.Need-shared-slice-read-need Inv-loop μ-loop
+shared-slice-read-need c = search needs
+
+div-need : tie.Need-div-need Inv-loop μ-loop
+div-need c = search needs
+
+add-j : tie.Need-add-j Inv-loop μ-loop
+add-j c = search needs
+
+loop-holds : tie.Need-loop-holds Inv-loop μ-loop
+loop-holds c = let p = c .before .before .before .before .before .before .pre in adding-start (p .0 .0) (p .0 .1) (p .0 .2) (p .1)
+
+driven-need-requires : tie.Need-driven-need-requires Inv-loop μ-loop
+driven-need-requires c κs =
+    let s = c .before .before .before .before .before .before .before .before in
+    driven-in (s .pre .0 .0) (s .pre .0 .1) (s .pre .0 .2) (omega arith) (omega arith) (rw (toZ-ofZ (s .fits .t)) (s .pre .2))
+
+add-need : tie.Need-add-need Inv-loop μ-loop
+add-need c =
+    let s = c .before .before .before .before .before .before .before .before .before in
+    record { fits = adding-fits (c .before .before .loop .inv) (omega arith) (c .driven-need .ensures) (s .pre .0 .1 .rows-long) (s .good .0 .1) }
+
+add-j-2 : tie.Need-add-j-2 Inv-loop μ-loop
+add-j-2 c = search needs
+
+loop-less : tie.Need-loop-less Inv-loop μ-loop
+loop-less c = search needs
+
+loop-again : tie.Need-loop-again Inv-loop μ-loop
+loop-again c =
+    let p = c .before .before .before .before .before .before .before .before .before .pre in
+    adding-more (c .before .before .loop .inv) (p .0 .1 .some-column) (omega arith) (c .driven-need .ensures)
+
+returns-2 : tie.Need-returns-2 Inv-loop μ-loop
+returns-2 c =
+    let s = c .before .before .before .before .before .before .before .before in
+    adding-end (rw (toZ-ofZ (s .fits .t)) at (c .before .loop .inv)) (s .pre .0 .1 .some-column) (omega arith) (omega arith)
+    (rw (last-is (c .before .before .before .before), toZ-ofZ (s .fits .t)) at (c .before .before .before .if1 .left))
+
+pub need-on-spec : {M : Type 1} → statement M
+need-on-spec =
+    tie.close
+    (tie.spec
+    Inv-loop
+    μ-loop
+    mul-at
+    add-at
+    mul-last
+    shared-slice-copy-out-last
+    returns
+    mul-need
+    shared-slice-read-need
+    div-need
+    add-j
+    loop-holds
+    driven-need-requires
+    add-need
+    add-j-2
+    loop-less
+    loop-again
+    returns-2)

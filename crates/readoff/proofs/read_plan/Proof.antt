@@ -1,0 +1,115 @@
+-- `read_plan` is right: what is read so far and what the definition reads from the times now are the whole plan.
+use borrow.Author.Needs.{needs}
+use mathlib.Core.Path.{_≡_, _∙_}
+use native.Mathlib.Omega.{arith}
+use Prim.Native.Nat.{_-_}
+use lib.IntN.{ℤ}
+use lib.ListN.{length, length-set}
+use borrow.Author.Needs.{sfits-of}
+use mir.Facts.{toZ-ofZ}
+use mir.Syntax.{w64}
+use mir.Val.{toZ, ofZ}
+use Rattle.readoff.specs.Contracts.{timeAt}
+use Rattle.readoff.proofs.Plan.{Reading, reading-start, reading-near, push-in, reading-more, reading-end}
+use Rattle.readoff.proofs.read_plan.Statement.{statement}
+use Rattle.readoff.proofs.read_plan.Tie as tie
+use Rattle.readoff.proofs.read_plan.Reads as reads
+use Rattle.readoff.proofs.read_plan.Lts as lts
+use Rattle.readoff.proofs.layer_for.Reads as layer-for-reads
+use Rattle.readoff.proofs.push.Reads as push-reads
+
+abbrev Inv-loop : tie.InvT-loop
+Inv-loop table driver delay limit cost stages layers width g arrival times₀ plan₀ i₀ times plan i =
+    Reading table driver delay limit cost stages layers width g (toZ w64 arrival) times₀ plan₀ times plan i
+
+abbrev μ-loop : tie.MeasureT-loop
+μ-loop table driver delay limit cost stages layers width g arrival times₀ plan₀ i₀ times plan i = stages - i
+
+-- the slice of times keeps its length
+long : (c : tie.At-loop Inv-loop μ-loop) → length (c .loop .times) ≡ length (c .before .before .before .before .before .args .times .now)
+long c = c .loop .inv .times-long ∙ simp length-set
+
+-- the time of the stage at hand
+abbrev time : tie.After-t Inv-loop μ-loop → ℤ
+time c = timeAt (c .before .before .loop .times) (c .before .before .loop .i)
+
+time-is : (c : tie.After-t Inv-loop μ-loop) → toZ w64 (ofZ w64 (time c)) ≡ time c
+time-is c = toZ-ofZ (sfits-of (c .t .given))
+
+slice-set-from-arrival : tie.Need-slice-set-from-arrival Inv-loop μ-loop
+slice-set-from-arrival c = let p = c .before .before .before .before .pre in omega (arith, p .times-long, p .sized .stages-are, p .sized .tree .some-stage)
+
+loop-holds : tie.Need-loop-holds Inv-loop μ-loop
+loop-holds c =
+    let s = c .before .before .before .before in
+    reading-start (s .args .times .now) (s .pre .tree) (s .pre .sized) (toZ-ofZ (s .fits .arrival) ∙ s .pre .arrival-is) (s .pre .times-long)
+
+mul-t : tie.Need-mul-t Inv-loop μ-loop
+mul-t c = let p = c .before .before .before .before .before .before .pre in omega (arith, p .sized .stages-are, p .sized .laid .few-stages)
+
+slice-copy-out-t : tie.Need-slice-copy-out-t Inv-loop μ-loop
+slice-copy-out-t c = omega (arith, long (c .before), c .before .before .before .before .before .before .pre .times-long)
+
+layer-for-requires : tie.Need-layer-for-requires Inv-loop μ-loop
+layer-for-requires c κs =
+    let p = c .before .before .before .before .before .before .before .pre in
+    let h = c .before .loop-test .taken in
+    ((p .tree, p .sized, p .layers-are), h, rw (time-is c) (reading-near (c .before .before .loop .inv) h (p .tree) (p .sized)))
+
+cast-plan : tie.Need-cast-plan Inv-loop μ-loop
+cast-plan c =
+    let p = c .before .before .before .before .before .before .before .before .pre in
+    record { fits = omega (arith, c .layer-for .ensures .most, p .sized .laid .few-layers, p .layers-are) }
+
+slice-write-plan : tie.Need-slice-write-plan Inv-loop μ-loop
+slice-write-plan c = omega (arith, c .before .before .before .loop .inv .plan-long, c .before .before .before .before .before .before .before .before .pre .plan-long)
+
+push-requires : tie.Need-push-requires Inv-loop μ-loop
+push-requires c κs =
+    let p = c .before .before .before .before .before .before .before .before .before .pre in
+    let h = c .before .before .before .loop-test .taken in
+    push-in (c .before .before .before .before .loop .inv) h (p .tree) (p .sized) (p .layers-are) (simp length-set (p .times-long)) (c .before .layer-for .ensures .most)
+
+add-i : tie.Need-add-i Inv-loop μ-loop
+add-i c = search needs
+
+loop-less : tie.Need-loop-less Inv-loop μ-loop
+loop-less c = search needs
+
+loop-again : tie.Need-loop-again Inv-loop μ-loop
+loop-again c =
+    let p = c .before .before .before .before .before .before .before .before .before .before .before .pre in
+    let layer = rw (time-is (c .before .before .before .before)) at (c .before .before .before .layer-for .ensures) in
+    let push = c .before .push in
+    let h = c .before .before .before .before .before .loop-test .taken in
+    reading-more (c .before .before .before .before .before .before .loop .inv) h layer (push .ensures) (p .tree) (p .sized) (p .layers-are) (p .plan-long) (push .kept .1 .1 .0)
+
+same-length : tie.Need-same-length Inv-loop μ-loop
+same-length c = long (c .before)
+
+same-length-2 : tie.Need-same-length-2 Inv-loop μ-loop
+same-length-2 c = omega (arith, c .before .loop .inv .plan-long)
+
+returns : tie.Need-returns Inv-loop μ-loop
+returns c = rw (toZ-ofZ (c .before .before .before .before .before .before .fits .arrival)) at (reading-end (c .before .loop .inv) (omega arith))
+
+pub read-plan-spec : {M : Type 1} → statement M
+read-plan-spec =
+    tie.close
+    (tie.spec
+    Inv-loop
+    μ-loop
+    slice-set-from-arrival
+    loop-holds
+    mul-t
+    slice-copy-out-t
+    layer-for-requires
+    cast-plan
+    slice-write-plan
+    push-requires
+    add-i
+    loop-less
+    loop-again
+    same-length
+    same-length-2
+    returns)

@@ -1,0 +1,111 @@
+-- What the functions that read the plan off the table ask and promise.
+use mathlib.Core.Path.{_≡_}
+use mathlib.Core.Bool.{true}
+use mathlib.Core.List.{List, _++_}
+use Prim.Native.Nat.{ℕ, _+_, _*_, _-_, _^_, _≤_, _<_, min}
+use lib.Dec.{leb, eqb}
+use lib.ListN.{length, getD, drop}
+use lib.IntN.{ℤ, pos, _+ℤ_}
+use lib.Signed.{leZ}
+use Rattle.laws.specs.Basic.{if_then_else_}
+use Rattle.laws.specs.Integers.{up, down}
+use Rattle.rules.specs.Bytes.{maxLayers}
+use Rattle.oracle.specs.Stages.{StageTree, WellFormed}
+use Rattle.oracle.specs.Programme.{leastOn}
+use Rattle.oracle.specs.Timing.{charge, leastAt}
+use Rattle.oracle.specs.ReadOff.{firstLayer}
+use Rattle.oracle.specs.Rows.{Dual}
+use Rattle.oracle.specs.Result.{treeLeast, readPlan}
+use Rattle.readoff.specs.Laid.{rowAt, onLayer, maxDelay, Laid, Filled}
+
+-- A time to which a delay can be added within 64 bits.
+abbrev pub Near : ℤ → Type 0
+Near t = (up t ≤ 2 ^ 62) × (down t ≤ 2 ^ 62)
+
+-- r is the first column of the row at `off` whose entry is no earlier than t: what is least for t, if the row is dual to f, as far as `width`.
+pub record Column (table : List ℤ) (off width : ℕ) (t : ℤ) (r : ℕ) : Type 0 where
+  pub most : r ≤ width
+  pub is : (lo : ℤ) (f : ℤ → ℕ) → Dual lo (width - 1) (rowAt table off) f → leZ lo t ≡ true → r ≡ min (f t) width
+
+-- When stage j is reached, if the stage that drives it is on layer l and is reached at t.
+abbrev pub arriveAt : List ℕ → ℕ → ℕ → ℤ → ℤ
+arriveAt delay j l t = t +ℤ pos (onLayer delay j l)
+
+-- Stage j has its driver and its delay on layer l in the slices and a row in the table.
+pub record DrivenIn (table : List ℤ) (driver delay : List ℕ) (width l : ℕ) (t : ℤ) (j : ℕ) : Type 0 where
+  pub some-column : 0 < width
+  pub row-inside : j * width + width ≤ length table
+  pub driver-inside : j < length driver
+  pub delay-inside : j * maxLayers + l < length delay
+  pub delay-most : onLayer delay j l ≤ maxDelay
+  pub near : Near t
+
+-- r is what stage j adds to the need of stage i on layer l, reached at t.
+pub record Driven (table : List ℤ) (driver delay : List ℕ) (width i l : ℕ) (t : ℤ) (j r : ℕ) : Type 0 where
+  pub most : r ≤ width
+  pub is : (lo : ℤ) (f : ℤ → ℕ) → Dual lo (width - 1) (rowAt table (j * width)) f → leZ lo t ≡ true
+      → r ≡ (if eqb (getD driver j 0) i then min (f (arriveAt delay j l t)) width else 0)
+
+-- The slices hold the numbers of the tree T, the table has a row of `width` columns for each stage, and the grain g is not 0.
+pub record Sized (T : StageTree) (table : List ℤ) (driver delay : List ℕ) (limit : List ℤ) (cost : List ℕ) (stages width g : ℕ) : Type 0 where
+  pub laid : Laid T driver delay limit cost
+  pub tree : WellFormed T
+  pub stages-are : stages ≡ T .stages
+  pub some-column : 0 < width
+  pub rows-long : stages * width ≤ length table
+  pub some-grain : 0 < g
+
+-- The table is finished, at the grain g = 2^k and for times from lo on.
+pub record Finished (T : StageTree) (k : ℕ) (lo : ℤ) (table : List ℤ) (driver delay : List ℕ) (limit : List ℤ) (cost : List ℕ) (stages width g : ℕ) : Type 0 where
+  pub sized : Sized T table driver delay limit cost stages width g
+  pub grain-is : g ≡ 2 ^ k
+  pub filled : Filled T k lo width table
+
+-- r is within the same budgets as what stage i on layer l, reached at t, is charged with all that it drives.
+pub record Need (table : List ℤ) (driver delay : List ℕ) (limit : List ℤ) (cost : List ℕ) (stages width g i l : ℕ) (t : ℤ) (r : ℕ) : Type 0 where
+  pub is : (T : StageTree) (k : ℕ) (lo : ℤ) → Finished T k lo table driver delay limit cost stages width g → l < T .layers → leZ lo t ≡ true
+      → (w : ℕ) → w < width → leb r w ≡ leb (leastOn T (charge T k (width - 1)) i l t) w
+
+-- r is the first layer of stage i, reached at t, that attains the least, if the least is within the columns.
+pub record Layer (table : List ℤ) (driver delay : List ℕ) (limit : List ℤ) (cost : List ℕ) (stages layers width g i : ℕ) (t : ℤ) (r : ℕ) : Type 0 where
+  pub most : r < layers
+  pub is : (T : StageTree) (k : ℕ) (lo : ℤ) → Finished T k lo table driver delay limit cost stages width g → layers ≡ T .layers → leZ lo t ≡ true
+      → leastAt T k (width - 1) i t < width → r ≡ firstLayer T (charge T k (width - 1)) i t
+
+-- The time of stage j in the slice of times.
+abbrev pub timeAt : List ℤ → ℕ → ℤ
+timeAt times j = getD times j (pos 0)
+
+-- `reach` of the slices: stage i on layer l passes its time on to those that it drives.
+abbrev pub reachAt : List ℕ → List ℕ → ℕ → ℕ → List ℤ → ℕ → ℤ
+reachAt driver delay i l times j = if eqb (getD driver j 0) i then arriveAt delay j l (timeAt times i) else timeAt times j
+
+-- The stages after stage i have driver, delay on layer l and a time in the slices.
+pub record PushIn (driver delay : List ℕ) (times : List ℤ) (stages i l : ℕ) : Type 0 where
+  pub inside : i < stages
+  pub times-long : stages ≤ length times
+  pub driver-long : stages ≤ length driver
+  pub delay-long : stages * maxLayers ≤ length delay
+  pub layer-inside : l < maxLayers
+  pub delay-most : (j : ℕ) → i < j → j < stages → onLayer delay j l ≤ maxDelay
+  pub near : Near (timeAt times i)
+
+-- The times after stage i has passed its own on.
+pub record Pushed (driver delay : List ℕ) (times : List ℤ) (stages i l : ℕ) (after : List ℤ) : Type 0 where
+  pub is : (j : ℕ) → i < j → j < stages → timeAt after j ≡ reachAt driver delay i l times j
+
+-- The slices hold some tree with this arrival time, and there is room for its times and its plan.
+pub record ReadIn (table : List ℤ) (driver delay : List ℕ) (limit : List ℤ) (cost : List ℕ) (stages layers width g : ℕ) (arrival : ℤ) (times : List ℤ) (plan : List ℕ)
+    : Type 0 where
+  pub tree : StageTree
+  pub sized : Sized tree table driver delay limit cost stages width g
+  pub layers-are : layers ≡ tree .layers
+  pub arrival-is : arrival ≡ tree .arrival
+  pub times-long : stages ≤ length times
+  pub plan-long : stages ≤ length plan
+
+-- What is read off is the plan of the definition, if what the whole tree needs is within the columns; the bytes after the plan keep their values.
+pub record PlanRead (table : List ℤ) (driver delay : List ℕ) (limit : List ℤ) (cost : List ℕ) (stages layers width g : ℕ) (arrival : ℤ) (before after : List ℕ)
+    : Type 0 where
+  pub is : (T : StageTree) (k : ℕ) (lo : ℤ) → Finished T k lo table driver delay limit cost stages width g → layers ≡ T .layers → arrival ≡ T .arrival
+      → leZ lo (T .arrival) ≡ true → treeLeast T k (width - 1) < width → after ≡ readPlan T k (width - 1) ++ drop stages before

@@ -1,0 +1,55 @@
+-- The numbers of a tree of stages laid out in slices, and its work table in one slice with the rows one after the other. Stage i's number on layer l
+-- stands at i * 16 + l, whatever the number of layers.
+use mathlib.Core.Path.{_≡_}
+use mathlib.Core.List.{List, [], _∷_}
+use Prim.Native.Nat.{ℕ, _+_, _*_, _-_, _^_, _≤_, _<_}
+use lib.ListN.{length, getD}
+use lib.IntN.{ℤ, pos}
+use Rattle.laws.specs.Basic.{leastOf}
+use Rattle.laws.specs.Integers.{up, down}
+use Rattle.rules.specs.Bytes.{maxLayers, maxTime}
+use Rattle.oracle.specs.Stages.{StageTree}
+use Rattle.oracle.specs.Timing.{leastAt}
+use Rattle.oracle.specs.Rows.{Dual}
+
+-- Entry w of the row that starts at `off`.
+abbrev pub rowAt : List ℤ → ℕ → ℕ → ℤ
+rowAt table off w = getD table (off + w) (pos 0)
+
+-- The number of stage i on layer l.
+abbrev pub onLayer : List ℕ → ℕ → ℕ → ℕ
+onLayer slice i l = getD slice (i * maxLayers + l) 0
+
+-- The limit that stands for no limit at all: no time that is compared with it is later.
+abbrev pub noLimit : ℤ
+noLimit = pos (2 ^ 62)
+
+-- The least of the limits of a stage's own sinks, or `noLimit` if it has none.
+abbrev pub limitOf : List ℤ → ℤ
+limitOf [] = noLimit
+limitOf (r ∷ rs) = leastOf (r ∷ rs)
+
+-- The most that a delay to a stage can be, so that 64 of them fit.
+abbrev pub maxDelay : ℕ
+maxDelay = 2 ^ 55
+
+-- The slices hold the numbers of tree T, which are small enough for 64 bits: 64 delays can be added to the arrival time.
+pub record Laid (T : StageTree) (driver delay : List ℕ) (limit : List ℤ) (cost : List ℕ) : Type 0 where
+  pub few-stages : T .stages ≤ 64
+  pub few-layers : T .layers ≤ maxLayers
+  pub driver-long : T .stages ≤ length driver
+  pub delay-long : T .stages * maxLayers ≤ length delay
+  pub limit-long : T .stages * maxLayers ≤ length limit
+  pub cost-long : T .stages * maxLayers ≤ length cost
+  pub driver-at : (j : ℕ) → 0 < j → j < T .stages → getD driver j 0 ≡ T .driver j
+  pub delay-at : (j l : ℕ) → 0 < j → j < T .stages → l < T .layers → onLayer delay j l ≡ T .delay j l
+  pub limit-at : (i l : ℕ) → i < T .stages → l < T .layers → getD limit (i * maxLayers + l) (pos 0) ≡ limitOf (T .limits i l)
+  pub cost-at : (i l : ℕ) → i < T .stages → l < T .layers → onLayer cost i l ≡ T .cost i l
+  pub delay-most : (j l : ℕ) → 0 < j → j < T .stages → l < T .layers → T .delay j l ≤ maxDelay
+  pub limit-most : (i l : ℕ) → i < T .stages → l < T .layers → (up (limitOf (T .limits i l)) ≤ 2 ^ 62) × (down (limitOf (T .limits i l)) ≤ 2 ^ 62)
+  pub cost-most : (i l : ℕ) → i < T .stages → l < T .layers → T .cost i l < 2 ^ 28
+  pub arrival-most : (up (T .arrival) ≤ maxTime) × (down (T .arrival) ≤ maxTime)
+
+-- Every row is dual to the least charges of its stage at the grain 2^k, for times from lo on.
+pub record Filled (T : StageTree) (k : ℕ) (lo : ℤ) (width : ℕ) (table : List ℤ) : Type 0 where
+  pub dual : (i : ℕ) → i < T .stages → Dual lo (width - 1) (rowAt table (i * width)) (leastAt T k (width - 1) i)
