@@ -69,7 +69,7 @@ fn sink_places(kind: Kind) -> u16
         Kind::Sink {
             input_cap: _,
             required: _,
-        } => 2,
+        } => rules::MAX_CHILDREN,
     }
 }
 

@@ -47,11 +47,9 @@ pub fn tables(
     delay: &mut [u64],
     costs: &mut [u64],
 )
-    requires {
-        ⌜
-            Held (now net) (now heads) nodes layers × (length (now stage) ≡ 256) × (length (now below) ≡ 256) × (length (now delay) ≡ 4096) × (now costs ≡ replicate 1024 0)
-        ⌝
-    }
+    requires { ⌜
+        Held (now net) (now heads) nodes layers × (length (now stage) ≡ 256) × (length (now below) ≡ 256) × (length (now delay) ≡ 4096) × (now costs ≡ replicate 1024 0)
+        ⌝ }
     ensures { λ r. ⌜ Tables (netOf (now (net .entry))) (now (stage .exit)) (now (below .exit)) (now (delay .exit)) (now (costs .exit)) ⌝ }
 {
     let mut unit = [0u64; 32];
@@ -93,19 +91,30 @@ pub fn slack_of(
 // The cost and slack of a plan of the net.
 pub fn judged(net: &[u8], heads: &[usize], layers: usize, nodes: usize, plan: &[u8]) -> Judged
     requires { ⌜ Held (now net) (now heads) nodes layers × Fitting (netOf (now net)) (now plan) ⌝ }
-    ensures {
-        λ r.
-            ⌜
-                r ≡ record { refusal = 0; cost = cost (netOf (now (net .entry))) (now (plan .entry)); slack = slack (netOf (now (net .entry))) (now (plan .entry)) }
-            ⌝
-    }
+    ensures { λ r.
+        ⌜
+        r ≡ record { refusal = 0; cost = cost (netOf (now (net .entry))) (now (plan .entry)); slack = slack (netOf (now (net .entry))) (now (plan .entry)) }
+        ⌝ }
 {
     let mut stage = [0usize; 256];
     let mut below = [0usize; 256];
     let mut delay = [0u64; 4096];
     let mut costs = [0u64; 1024];
-    tables(net, heads, layers, nodes, &mut stage, &mut below, &mut delay, &mut costs);
+    tables(
+        net,
+        heads,
+        layers,
+        nodes,
+        &mut stage,
+        &mut below,
+        &mut delay,
+        &mut costs,
+    );
     let cost = plan_cost(&costs, plan);
     let slack = slack_of(net, heads, layers, nodes, &stage, &below, &delay, plan);
-    Judged { refusal: 0, cost, slack }
+    Judged {
+        refusal: 0,
+        cost,
+        slack,
+    }
 }

@@ -2,8 +2,13 @@
 use reader::Net;
 use reader::read;
 use rules::Checked;
+use rules::Judged;
+use timing::are_layers;
+use timing::judged;
 ghost use mathlib.Core.Path.{_≡_};
 ghost use Rattle.rules.specs.Reading.{check};
+ghost use Rattle.rules.specs.Judging.{judge};
+ghost use Rattle.vorphiel.specs.Answers.{netRefusal};
 
 // Checking (01, Reading): the counts of nodes, stages and layers of the net that the bytes hold, or the number of the first fault and zeros.
 pub fn check(net: &[u8]) -> Checked
@@ -48,5 +53,69 @@ pub extern "C" fn vorphiel_check(
     *nodes = answer.nodes;
     *stages = answer.stages;
     *layers = answer.layers;
+    answer.refusal
+}
+
+// The refusal number of a reading, 0 for a net.
+fn net_refusal(found: Net) -> u8
+    ensures { λ r. ⌜ r ≡ netRefusal found ⌝ }
+{
+    match found {
+        Net::Read {
+            nodes: _,
+            stages: _,
+            layers: _,
+        } => 0,
+        Net::Refused(r) => r,
+    }
+}
+
+// Judging (01, Judging): the cost and slack of a plan, or a refusal number and zeros: 1 to 6 of the net, then 7, then 8.
+pub fn judge(net: &[u8], plan: &[u8]) -> Judged
+    ensures { λ r. ⌜ r ≡ judge (now (net .entry)) (now (plan .entry)) ⌝ }
+{
+    let mut heads = [0usize; 256];
+    let found = read(net, &mut heads);
+    let Net::Read {
+        nodes,
+        stages,
+        layers,
+    } = found
+    else {
+        return Judged {
+            refusal: net_refusal(found),
+            cost: 0,
+            slack: 0,
+        };
+    };
+    if plan.len() != stages {
+        return Judged {
+            refusal: 7,
+            cost: 0,
+            slack: 0,
+        };
+    }
+    if !are_layers(plan, layers) {
+        return Judged {
+            refusal: 8,
+            cost: 0,
+            slack: 0,
+        };
+    }
+    judged(net, &heads, layers, nodes, plan)
+}
+
+// Judging for hosts in other languages: the result is the refusal number, cost and slack are left where the host says.
+#[no_mangle]
+pub extern "C" fn vorphiel_judge(net: &[u8], plan: &[u8], cost: &mut u64, slack: &mut i64) -> u8
+    ensures { λ r.
+        ⌜
+        record { refusal = r; cost = now (cost .exit); slack = now (slack .exit) } ≡ judge (now (net .entry)) (now (plan .entry))
+        ⌝ }
+{
+    let answer = judge(net, plan);
+    *cost = answer.cost;
+    let ticks = answer.slack;
+    *slack = ticks;
     answer.refusal
 }

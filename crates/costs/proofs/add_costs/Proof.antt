@@ -63,7 +63,7 @@ same-length : tie.Need-same-length Inv-loop μ-loop
 same-length c = c .before .loop .inv .1 .long
 
 returns : tie.Need-returns Inv-loop μ-loop
-returns c = 
+returns c =
     let e : c .before .loop .l ≡ c .before .before .before .before .args .layers = omega arith in
     rw (← e) (c .before .loop .inv .1)
 

@@ -20,7 +20,7 @@ abbrev μ-loop : tie.MeasureT-loop
 
 here : (c : tie.After-wide Inv-loop μ-loop)
     → (c .wide .result < 16) × (c .before .before .before .loop .t < 64) × (planSum (c .before .before .before .before .before .before .args .costs .now) (c .before .before .before .before .before .before .args .plan .now) (c .before .before .before .loop .t) + getD (c .before .before .before .before .before .before .args .costs .now) (c .before .before .before .loop .t * 16 + c .wide .result) 0 ≤ 65 * maxPlanCost)
-here c = 
+here c =
     let s = c .before .before .before .before .before .before .pre in
     turn-in (s .1) (s .2) _ (s .4) (c .before .before .before .loop .t) (c .wide .result) (omega (arith, s .3, c .before .before .loop-test .taken)) (c .wide .ensures)
 
@@ -55,12 +55,13 @@ loop-less : tie.Need-loop-less Inv-loop μ-loop
 loop-less c = search needs
 
 loop-again : tie.Need-loop-again Inv-loop μ-loop
-loop-again c = 
-    (omega arith,
-    sym (sum-next _ _ _ ∙ (rw (← c .before .wide .ensures) (ap (λ (k : ℕ). k + getD (c .before .before .before .before .before .before .before .args .costs .now) (c .before .before .before .before .loop .t * 16 + c .before .wide .result) 0) (sym (c .before .before .before .before .loop .inv .1))))))
+loop-again c = (
+  omega arith,
+  sym (sum-next _ _ _ ∙ (rw (← c .before .wide .ensures) (ap (λ (k : ℕ). k + getD (c .before .before .before .before .before .before .before .args .costs .now) (c .before .before .before .before .loop .t * 16 + c .before .wide .result) 0) (sym (c .before .before .before .before .loop .inv .1))))),
+)
 
 returns : tie.Need-returns Inv-loop μ-loop
-returns c = 
+returns c =
     λ n A P len L.
     let e : c .before .loop .t ≡ length (c .before .before .before .before .args .plan .now) = omega arith in
     c .before .loop .inv .1 ∙ (ap (planSum (c .before .before .before .before .args .costs .now) (c .before .before .before .before .args .plan .now)) (e ∙ len) ∙ sum-all A P _ L)

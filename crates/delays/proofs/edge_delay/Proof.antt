@@ -2,7 +2,6 @@
 use borrow.Author.Needs.{needs}
 use native.Mathlib.Omega.{arith}
 use Rattle.delays.proofs.Rows.{edge-fits}
-use borrow.Author.Needs.{needs}
 use Rattle.delays.proofs.edge_delay.Statement.{statement}
 use Rattle.delays.proofs.edge_delay.Tie as tie
 use Rattle.delays.proofs.edge_delay.Reads as reads

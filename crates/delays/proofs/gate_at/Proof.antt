@@ -7,7 +7,6 @@ use Rattle.reader.specs.declared.Node.{Node}
 use Rattle.tree.specs.Held.{netOf, held-accepted}
 use Rattle.delays.specs.Payloads.{Payloads, payloads}
 use Rattle.delays.specs.Gates.{gateOf, gate-driver, gate-steiner, gate-buffer, gate-sink}
-use borrow.Author.Needs.{needs}
 use Rattle.delays.proofs.gate_at.Statement.{statement}
 use Rattle.delays.proofs.gate_at.Tie as tie
 use Rattle.delays.proofs.gate_at.Reads as reads

@@ -6,7 +6,6 @@ use Rattle.facts.specs.Ranges.{gate-res-in, gate-intrinsic-in}
 use Rattle.tree.specs.Held.{netOf, held-accepted}
 use Rattle.delays.specs.Gates.{RootGate, root-gate, no-gate}
 use Rattle.delays.specs.Delayed.{start-gate, start-wire}
-use borrow.Author.Needs.{needs}
 use Rattle.delays.proofs.start.Statement.{statement}
 use Rattle.delays.proofs.start.Tie as tie
 use Rattle.delays.proofs.start.Reads as reads

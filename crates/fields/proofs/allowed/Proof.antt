@@ -4,7 +4,6 @@ use native.Mathlib.Omega.{arith}
 use borrow.Author.Tests.{le-leb, lt-leb, eq-eqb, ne-eqb}
 use Rattle.rules.specs.Bytes.{dueLayers, dueDriver, dueNode}
 use Rattle.fields.proofs.Laws.{kind-size-le}
-use borrow.Author.Needs.{needs}
 use Rattle.fields.proofs.allowed.Statement.{statement}
 use Rattle.fields.proofs.allowed.Tie as tie
 use Rattle.fields.proofs.allowed.Reads as reads

@@ -5,7 +5,6 @@ use mir.Facts.{toZ-ofZ}
 use mir.Syntax.{w64}
 use borrow.Author.Tests.{le-leb, lt-leb}
 use Rattle.rules.specs.Bytes.{isKind}
-use borrow.Author.Needs.{needs}
 use Rattle.fields.proofs.kind_in_range.Statement.{statement}
 use Rattle.fields.proofs.kind_in_range.Tie as tie
 use Rattle.fields.proofs.kind_in_range.Reads as reads

@@ -3,7 +3,6 @@ use borrow.Author.Needs.{needs}
 use mathlib.Core.Path.{_≡_, sym, _∙_}
 use borrow.Author.Tests.{not-true, not-false}
 use Rattle.fields.proofs.Laws.{layer-is}
-use borrow.Author.Needs.{needs}
 use Rattle.fields.proofs.layer_in_range.Statement.{statement}
 use Rattle.fields.proofs.layer_in_range.Tie as tie
 use Rattle.fields.proofs.layer_in_range.Reads as reads

@@ -3,7 +3,6 @@ use borrow.Author.Needs.{needs}
 use mathlib.Core.Path.{_∙_}
 use mir.Facts.{toZ-ofZ}
 use Rattle.fields.proofs.Laws.{time-low, time-fits, time-high}
-use borrow.Author.Needs.{needs}
 use Rattle.fields.proofs.time_at.Statement.{statement}
 use Rattle.fields.proofs.time_at.Tie as tie
 use Rattle.fields.proofs.time_at.Reads as reads

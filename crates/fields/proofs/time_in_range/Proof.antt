@@ -2,7 +2,6 @@
 use borrow.Author.Needs.{needs}
 use mir.Facts.{toZ-ofZ}
 use Rattle.fields.proofs.Laws.{time-from, time-before}
-use borrow.Author.Needs.{needs}
 use Rattle.fields.proofs.time_in_range.Statement.{statement}
 use Rattle.fields.proofs.time_in_range.Tie as tie
 use Rattle.fields.proofs.time_in_range.Reads as reads

@@ -1,7 +1,6 @@
 -- `has_room` is right: it makes the definition's tests in their order.
 use borrow.Author.Needs.{needs}
 use Rattle.reader.proofs.Steps.{room-full, room-buffer, room-other}
-use borrow.Author.Needs.{needs}
 use Rattle.reader.proofs.has_room.Statement.{statement}
 use Rattle.reader.proofs.has_room.Tie as tie
 use Rattle.reader.proofs.has_room.Reads as reads

@@ -3,7 +3,6 @@ use borrow.Author.Needs.{needs}
 use mathlib.Core.Path.{_∙_}
 use borrow.Author.Tests.{not-true, not-false}
 use Rattle.reader.proofs.Steps.{ranges-length, ranges-costs, ranges-kind}
-use borrow.Author.Needs.{needs}
 use Rattle.reader.proofs.in_ranges.Statement.{statement}
 use Rattle.reader.proofs.in_ranges.Tie as tie
 use Rattle.reader.proofs.in_ranges.Reads as reads

@@ -1,7 +1,6 @@
 -- `may_have_child` is right: it makes the definition's two tests in their order.
 use borrow.Author.Needs.{needs}
 use Rattle.reader.proofs.Steps.{parent-higher, parent-places}
-use borrow.Author.Needs.{needs}
 use Rattle.reader.proofs.may_have_child.Statement.{statement}
 use Rattle.reader.proofs.may_have_child.Tie as tie
 use Rattle.reader.proofs.may_have_child.Reads as reads

@@ -8,7 +8,6 @@ use Rattle.rules.specs.Reading.{field, accept, refuse}
 use Rattle.fields.specs.Fields.{foundField, foundRefusal}
 use Rattle.fields.proofs.Laws.{field-inside}
 use Rattle.reader.proofs.Steps.{node-ends, step-none, step-4, step-3, step-5, step-took}
-use borrow.Author.Needs.{needs}
 use Rattle.reader.proofs.node_at.Statement.{statement}
 use Rattle.reader.proofs.node_at.Tie as tie
 use Rattle.reader.proofs.node_at.Reads as reads

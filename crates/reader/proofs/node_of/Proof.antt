@@ -1,7 +1,6 @@
 -- `node_of` is right: it decodes the three parts at the places that the definition names.
 use borrow.Author.Needs.{needs}
 use Rattle.reader.proofs.Steps.{record-is}
-use borrow.Author.Needs.{needs}
 use Rattle.reader.proofs.node_of.Statement.{statement}
 use Rattle.reader.proofs.node_of.Tie as tie
 use Rattle.reader.proofs.node_of.Reads as reads

@@ -11,7 +11,6 @@ use Rattle.fields.specs.Fields.{foundField, foundRefusal, layersIn}
 use Rattle.fields.proofs.Laws.{Inside, field-inside}
 use Rattle.reader.specs.Nodes.{nodesRefusal}
 use Rattle.reader.proofs.Whole.{layers-size, driver-size, read-1, read-2, read-3, read-4, read-5, read-6, tree-few}
-use borrow.Author.Needs.{needs}
 use Rattle.reader.proofs.read.Statement.{statement}
 use Rattle.reader.proofs.read.Tie as tie
 use Rattle.reader.proofs.read.Reads as reads

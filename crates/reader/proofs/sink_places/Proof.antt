@@ -1,6 +1,5 @@
 -- `sink_places` is right: it goes by the kind as the definition does.
 use borrow.Author.Needs.{needs}
-use borrow.Author.Needs.{needs}
 use Rattle.reader.proofs.sink_places.Statement.{statement}
 use Rattle.reader.proofs.sink_places.Tie as tie
 use Rattle.reader.proofs.sink_places.Reads as reads

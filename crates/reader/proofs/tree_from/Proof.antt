@@ -3,7 +3,6 @@ use borrow.Author.Needs.{needs}
 use mathlib.Core.Path.{_≡_}
 use borrow.Author.Tests.{not-true, not-false}
 use Rattle.reader.proofs.Whole.{LoopGave, loop-gave, tree-refused, tree-childless, tree-took}
-use borrow.Author.Needs.{needs}
 use Rattle.reader.proofs.tree_from.Statement.{statement}
 use Rattle.reader.proofs.tree_from.Tie as tie
 use Rattle.reader.proofs.tree_from.Reads as reads

@@ -5,7 +5,6 @@ use borrow.Author.Needs.{sfits-of}
 use mir.Facts.{toZ-ofZ}
 use mir.Syntax.{w64}
 use Rattle.readoff.proofs.Needs.{driven-none, driven-some}
-use borrow.Author.Needs.{needs}
 use Rattle.readoff.proofs.driven_need.Statement.{statement}
 use Rattle.readoff.proofs.driven_need.Tie as tie
 use Rattle.readoff.proofs.driven_need.Reads as reads

@@ -2,7 +2,6 @@
 use borrow.Author.Needs.{needs}
 use mir.Facts.{toZ-ofZ}
 use Rattle.readoff.proofs.Needs.{near-fits, near-sum}
-use borrow.Author.Needs.{needs}
 use Rattle.readoff.proofs.reached_at.Statement.{statement}
 use Rattle.readoff.proofs.reached_at.Tie as tie
 use Rattle.readoff.proofs.reached_at.Reads as reads

@@ -156,7 +156,7 @@ stage-required-loop-holds : (t : ℕ) → stage-required-lts.Need-loop-holds (
   lesser-reads.Asked,
   lesser-reads.Learnt,
 ) (stage-required-at t) stage-required.Post stage-required-Inv-loop stage-required-μ-loop
-stage-required-loop-holds t c = 
+stage-required-loop-holds t c =
     let s = c .before .before .before .before .before .before .before .before .before in
     going-start (s .pre .1 .0) (entered (s .pre .1 .0) (s .pre .1 .1) (s .pre .1 .2) (c .wide .ensures)) (s .pre .1 .1)
 
@@ -172,7 +172,7 @@ stage-required-ends-stage-requires : (t : ℕ) → stage-required-lts.Need-ends-
   lesser-reads.Asked,
   lesser-reads.Learnt,
 ) (stage-required-at t) stage-required.Post stage-required-Inv-loop stage-required-μ-loop
-stage-required-ends-stage-requires t c κs = 
+stage-required-ends-stage-requires t c κs =
     let s = c .before .before .before .before .before .before .before .before .before .before .before in
     let z = sizes (s .pre .1 .0) in
     (s .args .nodes, s .pre .1 .0 .held, omega (arith, c .before .loop .inv .on), c .loop-test .taken, z .stage-long)
@@ -190,7 +190,7 @@ stage-required-terminal-required-requires :
       lesser-reads.Asked,
       lesser-reads.Learnt,
     ) (stage-required-at t) stage-required.Post stage-required-Inv-loop stage-required-μ-loop
-stage-required-terminal-required-requires t c κs = 
+stage-required-terminal-required-requires t c κs =
     let s = c .before .before .before .before .before .before .before .before .before .before .before .before .before in
     let g = c .before .before .before .loop .inv in
     (omega (arith, s .pre .0, g .on, c .before .before .loop-test .taken), (s .pre .1 .0, omega (arith, g .on), c .before .before .loop-test .taken))
@@ -221,7 +221,7 @@ stage-required-add-less : (t : ℕ) → stage-required-lts.Need-add-less (
   lesser-reads.Asked,
   lesser-reads.Learnt,
 ) (stage-required-at t) stage-required.Post stage-required-Inv-loop stage-required-μ-loop
-stage-required-add-less t c = 
+stage-required-add-less t c =
     let s = c .before .before .before .before .before .before .before .before .before .before .before .before .before .before in
     let z = sizes (s .pre .1 .0) in
     let e = entered (s .pre .1 .0) (s .pre .1 .1) (s .pre .1 .2) (c .before .before .before .before .before .wide .ensures) in
@@ -239,7 +239,7 @@ stage-required-mul-less-2 : (t : ℕ) → stage-required-lts.Need-mul-less-2 (
   lesser-reads.Asked,
   lesser-reads.Learnt,
 ) (stage-required-at t) stage-required.Post stage-required-Inv-loop stage-required-μ-loop
-stage-required-mul-less-2 t c = 
+stage-required-mul-less-2 t c =
     let s = c .before .before .before .before .before .before .before .before .before .before .before .before .before .before in
     let z = sizes (s .pre .1 .0) in
     let e = entered (s .pre .1 .0) (s .pre .1 .1) (s .pre .1 .2) (c .before .before .before .before .before .wide .ensures) in
@@ -257,7 +257,7 @@ stage-required-shared-slice-read-less : (t : ℕ) → stage-required-lts.Need-sh
   lesser-reads.Asked,
   lesser-reads.Learnt,
 ) (stage-required-at t) stage-required.Post stage-required-Inv-loop stage-required-μ-loop
-stage-required-shared-slice-read-less t c = 
+stage-required-shared-slice-read-less t c =
     let s = c .before .before .before .before .before .before .before .before .before .before .before .before .before .before .before in
     let z = sizes (s .pre .1 .0) in
     let e = entered (s .pre .1 .0) (s .pre .1 .1) (s .pre .1 .2) (c .before .before .before .before .before .before .wide .ensures) in
@@ -275,7 +275,7 @@ stage-required-less-requires : (t : ℕ) → stage-required-lts.Need-less-requir
   lesser-reads.Asked,
   lesser-reads.Learnt,
 ) (stage-required-at t) stage-required.Post stage-required-Inv-loop stage-required-μ-loop
-stage-required-less-requires t c κs = 
+stage-required-less-requires t c κs =
     let s = c .before .before .before .before .before .before .before .before .before .before .before .before .before .before .before in
     let b = c .before .terminal-required in
     let eb : toZ w64 (ofZ w64 (b .result)) ≡ b .result = toZ-ofZ (sfits-of (b .ok)) in
@@ -337,7 +337,7 @@ stage-required-loop-again : (t : ℕ) → stage-required-lts.Need-loop-again (
   lesser-reads.Asked,
   lesser-reads.Learnt,
 ) (stage-required-at t) stage-required.Post stage-required-Inv-loop stage-required-μ-loop
-stage-required-loop-again t c = 
+stage-required-loop-again t c =
     let s = c .before .before .before .before .before .before .before .before .before .before .before .before .before in
     let T = s .pre .1 .0 in
     let E = entered T (s .pre .1 .1) (s .pre .1 .2) (c .before .before .before .before .wide .ensures) in
@@ -362,7 +362,7 @@ stage-required-returns : (t : ℕ) → stage-required-lts.Need-returns (
   lesser-reads.Asked,
   lesser-reads.Learnt,
 ) (stage-required-at t) stage-required.Post stage-required-Inv-loop stage-required-μ-loop
-stage-required-returns t c = 
+stage-required-returns t c =
     let s = c .before .before .before .before .before .before .before .before .before .before .before in
     going-end (s .pre .1 .0) (entered (s .pre .1 .0) (s .pre .1 .1) (s .pre .1 .2) (c .before .before .wide .ensures)) (s .pre .1 .1) (c .before .loop .inv) (c .loop-test .left)
 
@@ -397,10 +397,11 @@ terminal-required-stage-required-requires :
       stage-required-below t,
       stage-required.Post,
     ) (terminal-required-at t) terminal-required.Post
-terminal-required-stage-required-requires t c κs = 
-    let s = c .before .before .before .before .before .before .before .before .before in
-    (omega (arith, s .pre .0),
-    (s .pre .1 .0, s .pre .1 .2, buffer-root (s .pre .1 .0) (s .args .j) (sym (ap (λ (r : Node). r .kind) (c .before .before .node-at .ensures)) ∙ c .enum-told2 .given .1) (s .pre .1 .1)))
+terminal-required-stage-required-requires t c κs =
+    let s = c .before .before .before .before .before .before .before .before .before in (
+      omega (arith, s .pre .0),
+      (s .pre .1 .0, s .pre .1 .2, buffer-root (s .pre .1 .0) (s .args .j) (sym (ap (λ (r : Node). r .kind) (c .before .before .node-at .ensures)) ∙ c .enum-told2 .given .1) (s .pre .1 .1)),
+    )
 
 terminal-required-enum-known-kind : (t : ℕ) → terminal-required-lts.Need-enum-known-kind (
   node-at-reads.Asked,
@@ -416,7 +417,7 @@ terminal-required-returns : (t : ℕ) → terminal-required-lts.Need-returns (
   stage-required-below t,
   stage-required.Post,
 ) (terminal-required-at t) terminal-required.Post
-terminal-required-returns t c = 
+terminal-required-returns t c =
     let s = c .before .before .before .before .before .before .before .before .before in
     at-steiner (s .pre .1 .0) (s .args .j) (sym (ap (λ (r : Node). r .kind) (c .before .before .node-at .ensures)) ∙ c .enum-told .given .1)
 
@@ -426,7 +427,7 @@ terminal-required-returns-2 : (t : ℕ) → terminal-required-lts.Need-returns-2
   stage-required-below t,
   stage-required.Post,
 ) (terminal-required-at t) terminal-required.Post
-terminal-required-returns-2 t c = 
+terminal-required-returns-2 t c =
     let s = c .before .before .before .before .before .before .before .before .before .before in
     rw (toZ-ofZ (sfits-of (c .stage-required .ok)))
     (c .stage-required .ensures ∙ at-buffer (s .pre .1 .0) (s .args .j) (sym (ap (λ (r : Node). r .kind) (c .before .before .before .node-at .ensures)) ∙ c .before .enum-told2 .given .1))
@@ -437,7 +438,7 @@ terminal-required-returns-3 : (t : ℕ) → terminal-required-lts.Need-returns-3
   stage-required-below t,
   stage-required.Post,
 ) (terminal-required-at t) terminal-required.Post
-terminal-required-returns-3 t c = 
+terminal-required-returns-3 t c =
     let s = c .before .before .before .before .before .before .before .before .before .before in
     let h : SFits w64 (c .before .kind .given .0 .1 .0) = search needs in
     rw (toZ-ofZ h) (at-sink (s .pre .1 .0) (s .args .j) (sym (ap (λ (r : Node). r .kind) (c .before .before .before .node-at .ensures)) ∙ c .before .kind .given .1))

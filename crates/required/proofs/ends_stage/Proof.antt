@@ -6,7 +6,6 @@ use borrow.Author.Tests.{eq-eqb, ne-eqb}
 use Rattle.rules.specs.Tree.{isTerminal}
 use Rattle.reader.specs.declared.Node.{Node}
 use Rattle.tree.specs.Held.{held-accepted}
-use borrow.Author.Needs.{needs}
 use Rattle.required.proofs.ends_stage.Statement.{statement}
 use Rattle.required.proofs.ends_stage.Tie as tie
 use Rattle.required.proofs.ends_stage.Reads as reads
@@ -30,7 +29,7 @@ is-terminal-requires : tie.Need-is-terminal-requires
 is-terminal-requires c κs = search needs
 
 returns-2 : tie.Need-returns-2
-returns-2 c = 
+returns-2 c =
     c .is-terminal .ensures ∙
     (ap (λ (r : Node). isTerminal (r .kind)) (c .before .node-at .ensures) ∙ sym (simp (eq-eqb _ _ (c .before .before .if1 .left))))
 

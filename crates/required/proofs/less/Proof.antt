@@ -2,7 +2,6 @@
 use borrow.Author.Needs.{needs}
 use mir.Facts.{toZ-pos, toZ-ofZ}
 use mir.Syntax.{w64}
-use borrow.Author.Needs.{needs}
 use Rattle.required.proofs.less.Statement.{statement}
 use Rattle.required.proofs.less.Tie as tie
 use Rattle.required.proofs.less.Reads as reads

@@ -2,7 +2,6 @@
 use borrow.Author.Needs.{needs}
 use native.Mathlib.Omega.{arith}
 use Rattle.vorphiel.proofs.Checking.{refused, found, few}
-use borrow.Author.Needs.{needs}
 use Rattle.vorphiel.proofs.check.Statement.{statement}
 use Rattle.vorphiel.proofs.check.Tie as tie
 use Rattle.vorphiel.proofs.check.Reads as reads

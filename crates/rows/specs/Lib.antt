@@ -1,0 +1,4 @@
+pub mod General
+pub mod Entries
+pub mod Slices
+pub mod Contracts

@@ -1,0 +1,84 @@
+-- `judge` is right: it meets the refusals in the definition's order, and what is left after them is a plan of the net, whose cost and slack the tables give.
+use borrow.Author.Needs.{needs}
+use mathlib.Core.Path.{_≡_, refl, ap, sym, _∙_}
+use native.Mathlib.Omega.{arith}
+use borrow.Author.Tests.{not-true, not-false}
+use Rattle.rules.specs.Tree.{stages}
+use Rattle.tree.specs.Held.{Kept, netOf, held-read}
+use Rattle.timing.specs.Tables.{fitting}
+use Rattle.vorphiel.specs.Answers.{netRefusal}
+use Rattle.vorphiel.proofs.Judging.{judge-unread, judge-7, judge-8, judge-done}
+use Rattle.vorphiel.proofs.judge.Statement.{statement}
+use Rattle.vorphiel.proofs.judge.Tie as tie
+use Rattle.vorphiel.proofs.judge.Reads as reads
+use Rattle.vorphiel.proofs.judge.Lts as lts
+use Rattle.reader.proofs.read.Reads as read-reads
+use Rattle.timing.proofs.are_layers.Reads as are-layers-reads
+use Rattle.timing.proofs.judged.Reads as judged-reads
+use Rattle.vorphiel.proofs.net_refusal.Reads as net-refusal-reads
+
+kept : (c : tie.After-known-told)
+    → Kept (c .before .before .before .before .before .before .before .before .args .net .now) (c .before .before .before .before .read .last .1 .0) (c .before .found .given .0 .0) (c .before .found .given .0 .1 .0) (c .before .found .given .0 .1 .1 .0)
+kept c = held-read (rw (c .before .found .given .1) at (c .before .before .before .before .read .ensures)) (c .before .before .before .before .read .kept .1 .0)
+
+slice-aggregate-read : tie.Need-slice-aggregate-read
+slice-aggregate-read c = search needs
+
+read-requires : tie.Need-read-requires
+read-requires c κs = search needs
+
+enum-known-found : tie.Need-enum-known-found
+enum-known-found c = search needs
+
+enum-told : tie.Need-enum-told
+enum-told c = search needs
+
+net-refusal-requires : tie.Need-net-refusal-requires
+net-refusal-requires c κs = search needs
+
+returns : tie.Need-returns
+returns c =
+    rw (c .net-refusal .ensures ∙ ap netRefusal (c .before .enum-told .given .1))
+    (judge-unread _ _ (rw (c .before .enum-told .given .1) at (c .before .before .before .before .read .ensures)))
+
+returns-2 : tie.Need-returns-2
+returns-2 c = judge-7 _ _ (kept (c .before) .held) (λ e. c .if1 .taken (e ∙ sym (kept (c .before) .stages-are)))
+
+are-layers-requires : tie.Need-are-layers-requires
+are-layers-requires c κs = search needs
+
+returns-3 : tie.Need-returns-3
+returns-3 c =
+    let k = kept (c .before .before .before) in
+    judge-8 _ _ (k .held) (c .before .before .if1 .left ∙ k .stages-are) (sym (c .before .are-layers .ensures _ (k .held .layers-are)) ∙ not-true _ (c .if2 .taken))
+
+slice-aggregate-judged : tie.Need-slice-aggregate-judged
+slice-aggregate-judged c = search needs
+
+judged-requires : tie.Need-judged-requires
+judged-requires c κs =
+    let k = kept (c .before .before .before .before) in
+    (k .held, fitting _ (c .before .before .before .if1 .left ∙ k .stages-are) (sym (c .before .before .are-layers .ensures _ (k .held .layers-are)) ∙ not-false _ (c .before .if2 .left)))
+
+returns-4 : tie.Need-returns-4
+returns-4 c =
+    let k = kept (c .before .before .before .before .before) in
+    c .judged .ensures ∙
+    judge-done _ _ (k .held) (c .before .before .before .before .if1 .left ∙ k .stages-are) (sym (c .before .before .before .are-layers .ensures _ (k .held .layers-are)) ∙ not-false _ (c .before .before .if2 .left))
+
+pub judge-spec : {M : Type 1} → statement M
+judge-spec =
+    tie.close
+    (tie.spec
+    slice-aggregate-read
+    read-requires
+    enum-known-found
+    enum-told
+    net-refusal-requires
+    returns
+    returns-2
+    are-layers-requires
+    returns-3
+    slice-aggregate-judged
+    judged-requires
+    returns-4)
