@@ -7,7 +7,8 @@ use Prim.Native.Nat.{ℕ, zero, suc, _+_, _*_, _-_, _≤_, _<_}
 use native.Mathlib.Omega.{arith}
 use native.Mathlib.Nat.{zero-add, suc-add, add-zero, sub-zero}
 use lib.Dec.{eqb}
-use lib.ListN.{length, getD}
+use lib.ListN.{length, getD, replicate, length-replicate, getD-replicate, List·getD-eq-default}
+use native.Mathlib.Decide.{decLt}
 use borrow.Author.Tests.{eq-eqb, ne-eqb}
 use Rattle.laws.specs.Basic.{if_then_else_}
 use Rattle.laws.specs.Booleans.{same-or}
@@ -28,6 +29,14 @@ pub record Loaded (n : Net) (table : List ℕ) : Type 0 where
 pub record Unloaded (table : List ℕ) : Type 0 where
   pub each : (k : ℕ) → getD table k 0 ≡ 0
   pub long : length table ≡ 4096
+
+-- An array of zeros is such a table (what a caller with a fresh array of 4096 zeros has).
+pub unloaded-zeros : (m : ℕ) → m ≡ 4096 → Unloaded (replicate {A = ℕ} m 0)
+unloaded-zeros m e = record { each = λ k. go k (decLt k m); long = length-replicate {A = ℕ} m 0 ∙ e }
+  where
+    go : (k : ℕ) → Dec (k < m) → _≡_ {A = ℕ} (getD (replicate {A = ℕ} m 0) k 0) 0
+    go k (yes h) = getD-replicate m k 0 0 h
+    go k (no h) = List·getD-eq-default (replicate {A = ℕ} m 0) 0 (omega (arith, length-replicate {A = ℕ} m 0))
 
 -- The pass when nodes 1 to j are still to come.
 pub record Loading (n : Net) (table : List ℕ) (j : ℕ) : Type 0 where

@@ -32,7 +32,8 @@ pub record Filled (old table : List ℕ) (i k : ℕ) (f : ℕ → ℕ) : Type 0 
   pub long : length table ≡ length old
 
 -- The entries of another row, and the next of this one, are still those of `old`.
-pub row-kept : {old table : List ℕ} {i k : ℕ} {f : ℕ → ℕ} → Filled old table i k f → (m l : ℕ) → l < maxLayers → (m ≡ i → ⊥) → entry table m l ≡ entry old m l
+pub row-kept : {old table : List ℕ} {i k : ℕ} {f : ℕ → ℕ} → Filled old table i k f → (m l : ℕ) → l < maxLayers → (m ≡ i → ⊥)
+    → entry table m l ≡ entry old m l
 row-kept F m l h ne = F .others m l h (λ e b. ne e)
 
 pub next-kept : {old table : List ℕ} {i k : ℕ} {f : ℕ → ℕ} → Filled old table i k f → k < maxLayers → entry table i k ≡ entry old i k

@@ -2,11 +2,11 @@
 use mathlib.Core.Path.{_≡_, refl, ap, sym, _∙_}
 use mathlib.Core.Bool.{Bool, true, false}
 use mathlib.Core.List.{List, map}
-use Prim.Native.Nat.{ℕ, zero, suc, _+_, _*_, _≤_, _<_}
+use Prim.Native.Nat.{ℕ, _+_, _*_, _≤_, _<_}
 use native.Mathlib.Omega.{arith}
 use native.Mathlib.Nat.{zero-add}
 use lib.Dec.{ltb}
-use lib.ListN.{length, getD, replicate, length-replicate}
+use lib.ListN.{length, getD}
 use lib.IntN.{ℤ, _-ℤ_}
 use mir.Syntax.{w64}
 use mir.Val.{SFits}
@@ -20,7 +20,6 @@ use Rattle.facts.specs.Accepted.{Accepted}
 use Rattle.facts.specs.Fits.{slack-fits, fits-signed}
 use Rattle.tree.specs.Held.{Held, netOf, held-accepted}
 use Rattle.tree.specs.Staged.{Staged}
-use Rattle.delays.specs.Loaded.{Unloaded}
 use Rattle.delays.specs.Delayed.{Delayed}
 use Rattle.delays.specs.Payloads.{payloads}
 use Rattle.required.specs.Timed.{Timed}
@@ -84,15 +83,6 @@ layer-in plan layers t e h = lt-ltb (getD plan t 0) layers (omega arith)
 pub layer-out : (plan : List ℕ) (layers t : ℕ) {l : ℕ} → l ≡ getD plan t 0 → layers ≤ l → layerTest plan layers t ≡ false
 unfolding layerTest
 layer-out plan layers t e h = le-ltb (getD plan t 0) layers (omega arith)
-
--- a table of zeros has no load yet
-pub unloaded : {table : List ℕ} → table ≡ replicate 4096 0 → Unloaded table
-unloaded e = record { each = λ k. ap (λ (t : List ℕ). getD t k 0) e ∙ zeros 4096 k; long = ap length e ∙ length-replicate {A = ℕ} 4096 0 }
-  where
-    zeros : (m k : ℕ) → _≡_ {A = ℕ} (getD (replicate m 0) k 0) 0
-    zeros zero k = refl
-    zeros (suc m) zero = refl
-    zeros (suc m) (suc k) = zeros m k
 
 -- what a plan needs to be judged by the tables
 pub timed : {bs heads : List ℕ} {nodes layers : ℕ} {stage below delay costs plan : List ℕ} → Held bs heads nodes layers → Tables (netOf bs) stage below delay costs → Fitting (netOf bs) plan

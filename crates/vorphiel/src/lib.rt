@@ -88,14 +88,16 @@ pub fn judge(net: &[u8], plan: &[u8]) -> Judged
             slack: 0,
         };
     };
-    if plan.len() != stages {
+    let sized = plan.len() == stages;
+    let layered = are_layers(plan, layers);
+    if !sized {
         return Judged {
             refusal: 7,
             cost: 0,
             slack: 0,
         };
     }
-    if !are_layers(plan, layers) {
+    if !layered {
         return Judged {
             refusal: 8,
             cost: 0,

@@ -18,9 +18,12 @@ Inv-loop unit layers len kind load j delay₀ l₀ delay l = Filling delay₀ de
 abbrev μ-loop : tie.MeasureT-loop
 μ-loop unit layers len kind load j delay₀ l₀ delay l = layers - l
 
+abbrev begin : tie.In-loop Inv-loop μ-loop → tie.Start Inv-loop μ-loop
+begin c = c .before .before .before .before .before
+
 here : (c : tie.In-loop Inv-loop μ-loop)
-    → EdgeAdded (c .before .before .before .before .before .args .unit .now) (c .before .before .before .before .before .args .load .now) (c .before .before .before .before .before .args .delay .now) (c .before .loop .delay) (c .before .before .before .before .before .args .len) (c .before .before .before .before .before .args .kind) (c .before .before .before .before .before .args .j) (c .before .before .before .before .before .args .layers) (c .before .loop .l)
-here c = edge-added (c .before .before .before .before .before .pre .0) (c .before .before .before .before .before .pre .1) (c .before .loop .inv) (c .loop-test .taken)
+    → EdgeAdded (begin c .args .unit .now) (begin c .args .load .now) (begin c .args .delay .now) (c .before .loop .delay) (begin c .args .len) (begin c .args .kind) (begin c .args .j) (begin c .args .layers) (c .before .loop .l)
+here c = edge-added (begin c .pre .0) (begin c .pre .1) (c .before .loop .inv) (c .loop-test .taken)
 
 loop-holds : tie.Need-loop-holds Inv-loop μ-loop
 loop-holds c = fill-start _ _ _ _

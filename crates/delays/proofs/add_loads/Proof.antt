@@ -17,9 +17,12 @@ Inv-loop unit layers len kind j parent load₀ l₀ load l = Filling load₀ loa
 abbrev μ-loop : tie.MeasureT-loop
 μ-loop unit layers len kind j parent load₀ l₀ load l = layers - l
 
+abbrev begin : tie.In-loop Inv-loop μ-loop → tie.Start Inv-loop μ-loop
+begin c = c .before .before .before .before
+
 here : (c : tie.In-loop Inv-loop μ-loop)
-    → LoadAdded (c .before .before .before .before .args .unit .now) (c .before .before .before .before .args .load .now) (c .before .loop .load) (c .before .before .before .before .args .len) (c .before .before .before .before .args .kind) (c .before .before .before .before .args .j) (c .before .before .before .before .args .parent) (c .before .before .before .before .args .layers) (c .before .loop .l)
-here c = load-added (c .before .before .before .before .pre .0) (c .before .before .before .before .pre .1) (c .before .before .before .before .pre .2) (c .before .loop .inv) (c .loop-test .taken)
+    → LoadAdded (begin c .args .unit .now) (begin c .args .load .now) (c .before .loop .load) (begin c .args .len) (begin c .args .kind) (begin c .args .j) (begin c .args .parent) (begin c .args .layers) (c .before .loop .l)
+here c = load-added (begin c .pre .0) (begin c .pre .1) (begin c .pre .2) (c .before .loop .inv) (c .loop-test .taken)
 
 loop-holds : tie.Need-loop-holds Inv-loop μ-loop
 loop-holds c = fill-start _ _ _ _

@@ -18,21 +18,30 @@ Inv-loop net heads layers nodes unit load delay₀ j₀ delay j = Delaying (netO
 abbrev μ-loop : tie.MeasureT-loop
 μ-loop net heads layers nodes unit load delay₀ j₀ delay j = nodes + 1 - j
 
+abbrev begin : tie.In-loop Inv-loop μ-loop → tie.Start Inv-loop μ-loop
+begin c = c .before .before .before .before .before .before .before
+
 here : (c : tie.In-loop Inv-loop μ-loop)
-    → DelayTurn (netOf (c .before .before .before .before .before .before .before .args .net .now)) (c .before .before .before .before .before .before .before .args .unit .now) (c .before .before .before .before .before .before .before .args .load .now) (c .before .loop .delay) (c .before .before .before .before .before .before .before .args .layers) (c .before .loop .j)
-here c = delay-turn (held-accepted (c .before .before .before .before .before .before .before .pre .0)) (c .before .before .before .before .before .before .before .pre .0 .layers-are) (c .before .before .before .before .before .before .before .pre .1) (c .before .before .before .before .before .before .before .pre .2) (c .before .loop .inv) (omega (arith, c .before .before .before .before .before .before .before .pre .0 .nodes-are, c .loop-test .taken))
+    → DelayTurn (netOf (begin c .args .net .now)) (begin c .args .unit .now) (begin c .args .load .now) (c .before .loop .delay) (begin c .args .layers) (c .before .loop .j)
+here c = delay-turn (held-accepted (begin c .pre .0)) (begin c .pre .0 .layers-are) (begin c .pre .1) (begin c .pre .2) (c .before .loop .inv) (omega (arith, begin c .pre .0 .nodes-are, c .loop-test .taken))
 
 loop-holds : tie.Need-loop-holds Inv-loop μ-loop
 loop-holds c = delaying-start _ (c .before .before .before .before .before .pre .3)
 
 node-at-requires : tie.Need-node-at-requires Inv-loop μ-loop
-node-at-requires c κs = (c .before .before .before .before .before .before .before .args .nodes, c .before .before .before .before .before .before .before .pre .0, c .before .loop .inv .some, c .loop-test .taken)
+node-at-requires c κs = (begin c .args .nodes, begin c .pre .0, c .before .loop .inv .some, c .loop-test .taken)
 
 start-requires : tie.Need-start-requires Inv-loop μ-loop
-start-requires c κs = let t = here (c .before .before) in rw (c .before .node-at .ensures) ((c .before .before .before .before .before .before .before .before .before .args .nodes, c .before .before .before .before .before .before .before .before .before .pre .0, c .before .before .loop-test .taken, t .parent-lower), t .parent-row, t .own-row)
+start-requires c κs =
+    let t = here (c .before .before) in
+    let s = begin (c .before .before) in
+    rw (c .before .node-at .ensures) ((s .args .nodes, s .pre .0, c .before .before .loop-test .taken, t .parent-lower), t .parent-row, t .own-row)
 
 add-edge-requires : tie.Need-add-edge-requires Inv-loop μ-loop
-add-edge-requires c κs = let t = here (c .before .before .before .before .before .before) in rw (c .before .before .before .before .before .node-at .ensures) (t .edge, t .started (rw (c .before .before .before .before .before .node-at .ensures) at (c .before .before .before .start .ensures)))
+add-edge-requires c κs =
+    let t = here (c .before .before .before .before .before .before) in
+    let e = c .before .before .before .before .before .node-at .ensures in
+    rw e (t .edge, t .started (rw e at (c .before .before .before .start .ensures)))
 
 add-j : tie.Need-add-j Inv-loop μ-loop
 add-j c = let t = here (c .before .before .before .before .before .before .before .before .before) in omega (arith, t .own-row .node-in)
@@ -41,7 +50,10 @@ loop-less : tie.Need-loop-less Inv-loop μ-loop
 loop-less c = search needs
 
 loop-again : tie.Need-loop-again Inv-loop μ-loop
-loop-again c = here (c .before .before .before .before .before .before .before .before .before) .onward (rw (c .before .before .before .before .before .before .before .before .node-at .ensures) at (c .before .before .before .before .before .before .start .ensures)) (rw (c .before .before .before .before .before .before .before .before .node-at .ensures) at (c .before .before .add-edge .ensures))
+loop-again c =
+    let t = here (c .before .before .before .before .before .before .before .before .before) in
+    let e = c .before .before .before .before .before .before .before .before .node-at .ensures in
+    t .onward (rw e at (c .before .before .before .before .before .before .start .ensures)) (rw e at (c .before .before .add-edge .ensures))
 
 same-length : tie.Need-same-length Inv-loop μ-loop
 same-length c = omega (arith, c .before .before .before .before .before .before .before .pre .3, c .before .loop .inv .long)

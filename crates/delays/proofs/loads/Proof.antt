@@ -16,15 +16,18 @@ Inv-loop net heads layers nodes unit load₀ j₀ load j = Loading (netOf net) l
 abbrev μ-loop : tie.MeasureT-loop
 μ-loop net heads layers nodes unit load₀ j₀ load j = j
 
+abbrev begin : tie.In-loop Inv-loop μ-loop → tie.Start Inv-loop μ-loop
+begin c = c .before .before .before .before .before .before
+
 here : (c : tie.In-loop Inv-loop μ-loop)
-    → LoadTurn (netOf (c .before .before .before .before .before .before .args .net .now)) (c .before .before .before .before .before .before .args .unit .now) (c .before .loop .load) (c .before .before .before .before .before .before .args .layers) (c .before .loop .j)
-here c = load-turn (held-accepted (c .before .before .before .before .before .before .pre .0)) (c .before .before .before .before .before .before .pre .0 .layers-are) (c .before .before .before .before .before .before .pre .1) (c .before .loop .inv) (c .loop-test .taken)
+    → LoadTurn (netOf (begin c .args .net .now)) (begin c .args .unit .now) (c .before .loop .load) (begin c .args .layers) (c .before .loop .j)
+here c = load-turn (held-accepted (begin c .pre .0)) (begin c .pre .0 .layers-are) (begin c .pre .1) (c .before .loop .inv) (c .loop-test .taken)
 
 loop-holds : tie.Need-loop-holds Inv-loop μ-loop
 loop-holds c = loading-start _ (c .before .before .before .before .pre .0 .nodes-are) (c .before .before .before .before .pre .2)
 
 node-at-requires : tie.Need-node-at-requires Inv-loop μ-loop
-node-at-requires c κs = (c .before .before .before .before .before .before .args .nodes, c .before .before .before .before .before .before .pre .0, c .loop-test .taken, omega (arith, c .before .before .before .before .before .before .pre .0 .nodes-are, c .before .loop .inv .inside))
+node-at-requires c κs = (begin c .args .nodes, begin c .pre .0, c .loop-test .taken, omega (arith, begin c .pre .0 .nodes-are))
 
 add-loads-requires : tie.Need-add-loads-requires Inv-loop μ-loop
 add-loads-requires c κs = let t = here (c .before .before) in rw (c .before .node-at .ensures) (t .edge, t .parent-row, t .parent-lower)

@@ -18,16 +18,17 @@ gate : (c : tie.After-gate) → RootGate (netOf (c .before .before .before .befo
 gate c = root-gate _ _ (sym (c .gate .given .1) ∙ c .before .before .gate-at .ensures)
 
 gate-at-requires : tie.Need-gate-at-requires
-gate-at-requires c κs = (c .before .before .before .before .pre .0 .0, c .before .before .before .before .pre .0 .1, omega (arith, c .before .before .before .before .pre .0 .2, c .before .before .before .before .pre .0 .3))
+gate-at-requires c κs = let s = c .before .before .before .before in (s .pre .0 .0, s .pre .0 .1, omega arith)
 
 enum-known-gate : tie.Need-enum-known-gate
 enum-known-gate c = search needs
 
 start-at-gate-requires : tie.Need-start-at-gate-requires
 start-at-gate-requires c κs =
+    let s = c .before .before .before .before .before .before .before .before .before in
     let g = gate (c .before .before) in
-    let A = held-accepted (c .before .before .before .before .before .before .before .before .before .pre .0 .1) in
-    (rw (g .res-is) (gate-res-in A _), rw (g .intrinsic-is) (gate-intrinsic-in A _), c .before .before .before .before .before .before .before .before .before .pre .1, c .before .before .before .before .before .before .before .before .before .pre .2)
+    let A = held-accepted (s .pre .0 .1) in
+    (rw (g .res-is) (gate-res-in A _), rw (g .intrinsic-is) (gate-intrinsic-in A _), s .pre .1, s .pre .2)
 
 enum-told : tie.Need-enum-told
 enum-told c = search needs

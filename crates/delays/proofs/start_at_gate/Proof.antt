@@ -17,9 +17,12 @@ Inv-loop layers res intrinsic parent load j delay₀ l₀ delay l = Filling dela
 abbrev μ-loop : tie.MeasureT-loop
 μ-loop layers res intrinsic parent load j delay₀ l₀ delay l = layers - l
 
+abbrev begin : tie.In-loop Inv-loop μ-loop → tie.Start Inv-loop μ-loop
+begin c = c .before .before .before .before
+
 here : (c : tie.In-loop Inv-loop μ-loop)
-    → GateStarted (c .before .before .before .before .args .load .now) (c .before .before .before .before .args .delay .now) (c .before .loop .delay) (c .before .before .before .before .args .res) (c .before .before .before .before .args .intrinsic) (c .before .before .before .before .args .parent) (c .before .before .before .before .args .j) (c .before .before .before .before .args .layers) (c .before .loop .l)
-here c = gate-started (c .before .before .before .before .pre .0) (c .before .before .before .before .pre .2) (c .before .before .before .before .pre .3) (c .before .loop .inv) (c .loop-test .taken)
+    → GateStarted (begin c .args .load .now) (begin c .args .delay .now) (c .before .loop .delay) (begin c .args .res) (begin c .args .intrinsic) (begin c .args .parent) (begin c .args .j) (begin c .args .layers) (c .before .loop .l)
+here c = gate-started (begin c .pre .0) (begin c .pre .2) (begin c .pre .3) (c .before .loop .inv) (c .loop-test .taken)
 
 loop-holds : tie.Need-loop-holds Inv-loop μ-loop
 loop-holds c = fill-start _ _ _ _
@@ -37,7 +40,7 @@ shared-slice-read-below : tie.Need-shared-slice-read-below Inv-loop μ-loop
 shared-slice-read-below c = let t = here (c .before) in omega arith
 
 gate-delay-requires : tie.Need-gate-delay-requires Inv-loop μ-loop
-gate-delay-requires c κs = (c .before .before .before .before .before .pre .0, here (c .before) .gate-in, c .before .before .before .before .before .pre .1)
+gate-delay-requires c κs = (begin (c .before) .pre .0, here (c .before) .gate-in, begin (c .before) .pre .1)
 
 mul-delay : tie.Need-mul-delay Inv-loop μ-loop
 mul-delay c = let t = here (c .before .before) in omega arith

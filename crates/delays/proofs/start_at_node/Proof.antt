@@ -15,8 +15,11 @@ Inv-loop layers parent j delay₀ l₀ delay l = Filling delay₀ delay j layers
 abbrev μ-loop : tie.MeasureT-loop
 μ-loop layers parent j delay₀ l₀ delay l = layers - l
 
-here : (c : tie.In-loop Inv-loop μ-loop) → NodeStarted (c .before .before .args .delay .now) (c .before .loop .delay) (c .before .before .args .parent) (c .before .before .args .j) (c .before .before .args .layers) (c .before .loop .l)
-here c = node-started (c .before .before .pre .0) (c .before .before .pre .1) (c .before .loop .inv) (c .loop-test .taken)
+abbrev begin : tie.In-loop Inv-loop μ-loop → tie.Start Inv-loop μ-loop
+begin c = c .before .before
+
+here : (c : tie.In-loop Inv-loop μ-loop) → NodeStarted (begin c .args .delay .now) (c .before .loop .delay) (begin c .args .parent) (begin c .args .j) (begin c .args .layers) (c .before .loop .l)
+here c = node-started (begin c .pre .0) (begin c .pre .1) (c .before .loop .inv) (c .loop-test .taken)
 
 loop-holds : tie.Need-loop-holds Inv-loop μ-loop
 loop-holds c = fill-start _ _ _ _

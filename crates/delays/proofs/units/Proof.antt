@@ -19,8 +19,11 @@ Inv-loop net layers unit₀ l₀ unit l = Units (netOf net) unit l
 abbrev μ-loop : tie.MeasureT-loop
 μ-loop net layers unit₀ l₀ unit l = layers - l
 
-here : (c : tie.In-loop Inv-loop μ-loop) → LayerRead (c .before .before .before .before .args .net .now) (netOf (c .before .before .before .before .args .net .now)) (c .before .loop .l)
-here c = layer-read (c .before .before .before .before .pre .2) (c .loop-test .taken)
+abbrev begin : tie.In-loop Inv-loop μ-loop → tie.Start Inv-loop μ-loop
+begin c = c .before .before .before .before
+
+here : (c : tie.In-loop Inv-loop μ-loop) → LayerRead (begin c .args .net .now) (netOf (begin c .args .net .now)) (c .before .loop .l)
+here c = layer-read (begin c .pre .2) (c .loop-test .taken)
 
 loop-holds : tie.Need-loop-holds Inv-loop μ-loop
 loop-holds c = units-start _ (c .before .before .args .unit .now) (c .before .before .pre .3)

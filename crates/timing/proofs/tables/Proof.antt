@@ -1,7 +1,7 @@
 -- `tables` is right: each part is what the function that fills it ensures.
 use borrow.Author.Needs.{needs}
 use mathlib.Core.Path.{_≡_, refl}
-use Rattle.timing.specs.Tables.{unloaded}
+use Rattle.delays.specs.Loaded.{unloaded-zeros}
 use Rattle.timing.proofs.tables.Statement.{statement}
 use Rattle.timing.proofs.tables.Tie as tie
 use Rattle.timing.proofs.tables.Reads as reads
@@ -28,7 +28,7 @@ slice-aggregate-loads-2 : tie.Need-slice-aggregate-loads-2
 slice-aggregate-loads-2 c = search needs
 
 loads-requires : tie.Need-loads-requires
-loads-requires c κs = (c .before .before .before .before .before .before .before .before .before .before .before .before .before .before .before .before .before .before .pre .0, c .before .before .before .units .ensures, unloaded refl)
+loads-requires c κs = (c .before .before .before .before .before .before .before .before .before .before .before .before .before .before .before .before .before .before .pre .0, c .before .before .before .units .ensures, unloaded-zeros 4096 refl)
 
 slice-aggregate-delays : tie.Need-slice-aggregate-delays
 slice-aggregate-delays c = search needs

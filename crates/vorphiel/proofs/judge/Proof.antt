@@ -2,7 +2,7 @@
 use borrow.Author.Needs.{needs}
 use mathlib.Core.Path.{_≡_, refl, ap, sym, _∙_}
 use native.Mathlib.Omega.{arith}
-use borrow.Author.Tests.{not-true, not-false}
+use borrow.Author.Tests.{not-true, not-false, eqb-true, eqb-false}
 use Rattle.rules.specs.Tree.{stages}
 use Rattle.tree.specs.Held.{Kept, netOf, held-read}
 use Rattle.timing.specs.Tables.{fitting}
@@ -41,16 +41,18 @@ returns c =
     rw (c .net-refusal .ensures ∙ ap netRefusal (c .before .enum-told .given .1))
     (judge-unread _ _ (rw (c .before .enum-told .given .1) at (c .before .before .before .before .read .ensures)))
 
-returns-2 : tie.Need-returns-2
-returns-2 c = judge-7 _ _ (kept (c .before) .held) (λ e. c .if1 .taken (e ∙ sym (kept (c .before) .stages-are)))
-
 are-layers-requires : tie.Need-are-layers-requires
 are-layers-requires c κs = search needs
+
+returns-2 : tie.Need-returns-2
+returns-2 c =
+    let k = kept (c .before .before) in
+    judge-7 _ _ (k .held) (λ e. eqb-false _ _ (not-true _ (c .if1 .taken)) (e ∙ sym (k .stages-are)))
 
 returns-3 : tie.Need-returns-3
 returns-3 c =
     let k = kept (c .before .before .before) in
-    judge-8 _ _ (k .held) (c .before .before .if1 .left ∙ k .stages-are) (sym (c .before .are-layers .ensures _ (k .held .layers-are)) ∙ not-true _ (c .if2 .taken))
+    judge-8 _ _ (k .held) (eqb-true _ _ (not-false _ (c .before .if1 .left)) ∙ k .stages-are) (sym (c .before .before .are-layers .ensures _ (k .held .layers-are)) ∙ not-true _ (c .if2 .taken))
 
 slice-aggregate-judged : tie.Need-slice-aggregate-judged
 slice-aggregate-judged c = search needs
@@ -58,13 +60,13 @@ slice-aggregate-judged c = search needs
 judged-requires : tie.Need-judged-requires
 judged-requires c κs =
     let k = kept (c .before .before .before .before) in
-    (k .held, fitting _ (c .before .before .before .if1 .left ∙ k .stages-are) (sym (c .before .before .are-layers .ensures _ (k .held .layers-are)) ∙ not-false _ (c .before .if2 .left)))
+    (k .held, fitting _ (eqb-true _ _ (not-false _ (c .before .before .if1 .left)) ∙ k .stages-are) (sym (c .before .before .before .are-layers .ensures _ (k .held .layers-are)) ∙ not-false _ (c .before .if2 .left)))
 
 returns-4 : tie.Need-returns-4
 returns-4 c =
     let k = kept (c .before .before .before .before .before) in
     c .judged .ensures ∙
-    judge-done _ _ (k .held) (c .before .before .before .before .if1 .left ∙ k .stages-are) (sym (c .before .before .before .are-layers .ensures _ (k .held .layers-are)) ∙ not-false _ (c .before .before .if2 .left))
+    judge-done _ _ (k .held) (eqb-true _ _ (not-false _ (c .before .before .before .if1 .left)) ∙ k .stages-are) (sym (c .before .before .before .before .are-layers .ensures _ (k .held .layers-are)) ∙ not-false _ (c .before .before .if2 .left))
 
 pub judge-spec : {M : Type 1} → statement M
 judge-spec =
@@ -76,8 +78,8 @@ judge-spec =
     enum-told
     net-refusal-requires
     returns
-    returns-2
     are-layers-requires
+    returns-2
     returns-3
     slice-aggregate-judged
     judged-requires
