@@ -6,3 +6,4 @@ pub mod Values
 pub mod Demand2
 pub mod Demand3
 pub mod Columns
+pub mod Call

@@ -7,3 +7,4 @@ pub mod Loads
 pub mod Bounds
 pub mod Fits
 pub mod Costs
+pub mod Refusals

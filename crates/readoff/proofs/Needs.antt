@@ -61,7 +61,7 @@ driven-in {stages = stages} {width = width} {l = l} T S h {j} above inside near 
       row-inside = row-inside stages width j (S .rows-long) inside;
       driver-inside = omega (arith, L .driver-long);
       delay-inside = omega (arith, L .delay-long, L .few-layers);
-      delay-most = omega (arith, L .delay-at j l above low h, L .delay-most j l above low h);
+      delay-most = omega (arith, L .delay-at j l above low h, L .delay-most j l above low h, L .delays-most j low);
       near = near;
     }
 

@@ -1,9 +1,9 @@
 -- Reading the plan, stage after stage: what is read so far, and then what the definition reads from the times now, is the whole plan; what is left to
 -- pay stays within the columns, and no time leaves its bounds.
-use mathlib.Core.Path.{_≡_, refl, ap, _∙_}
+use mathlib.Core.Path.{_≡_, refl, ap, sym, _∙_}
 use mathlib.Core.Bool.{Bool, true, false}
 use mathlib.Core.List.{List, [], _∷_, _++_, append-assoc, append-nil}
-use Prim.Native.Nat.{ℕ, zero, suc, _+_, _*_, _-_, _≤_, _<_}
+use Prim.Native.Nat.{ℕ, zero, suc, _+_, _-_, _≤_, _<_}
 use native.Mathlib.Omega.{arith}
 use native.Mathlib.Nat.{sub-zero}
 use native.Mathlib.Numerals.{add-one}
@@ -12,7 +12,7 @@ use lib.IntN.{ℤ, pos}
 use lib.ListN.{length, getD, drop, set, length-set}
 use lib.Seq.{drop-cons, set-at, getD-set-same}
 use lib.Signed.{leZ}
-use borrow.Author.Tests.{eqb-false, ltb-true, lt-ltb}
+use borrow.Author.Tests.{eqb-true, eqb-false, ltb-true, lt-ltb}
 use Rattle.laws.specs.Basic.{if_then_else_}
 use Rattle.laws.specs.Lists.{length-more}
 use Rattle.laws.specs.Integers.{up, down, plus-up, plus-down}
@@ -22,14 +22,14 @@ use Rattle.oracle.specs.Programme.{isReached, reached-self, leastCharge, least-
 use Rattle.oracle.specs.Timing.{charge}
 use Rattle.oracle.specs.ReadOff.{firstLayer, readOff, read-least, read-step}
 use Rattle.oracle.specs.Result.{treeLeast, readPlan}
-use Rattle.readoff.specs.Laid.{onLayer, maxDelay, Laid}
+use Rattle.readoff.specs.Laid.{onLayer, Laid}
 use Rattle.readoff.specs.Contracts.{Near, arriveAt, timeAt, Sized, Finished, Layer, PushIn, Pushed, PlanRead}
 use Rattle.readoff.proofs.Needs.{later}
 use Rattle.readoff.proofs.Times.{pushed-reach}
 
--- How far from 0 a time can lie after i delays.
+-- How far from 0 a time can lie after delays that add up to at most d.
 abbrev Bounded : ℕ → ℤ → Type 0
-Bounded i t = (up t ≤ maxTime + maxDelay * i) × (down t ≤ maxTime)
+Bounded d t = (up t ≤ maxTime + d) × (down t ≤ maxTime)
 
 -- The stages before i are read into `plan`, whose bytes were `before`.
 pub record Going (T : StageTree) (k : ℕ) (lo : ℤ) (width : ℕ) (before : List ℕ) (times : List ℤ) (plan : List ℕ) (i : ℕ) : Type 0 where
@@ -43,25 +43,26 @@ pub record Going (T : StageTree) (k : ℕ) (lo : ℤ) (width : ℕ) (before : Li
   pub agree : (j : ℕ) → i ≤ j → j < T .stages → isReached T i j ≡ true → timeAt times j ≡ reached j
   pub from-lo : (j : ℕ) → i ≤ j → j < T .stages → isReached T i j ≡ true → leZ lo (reached j) ≡ true
 
--- The invariant of the loop: bounds that hold for the tree in the slices, and the meaning for every tree that they hold.
+-- The invariant of the loop: the bounds and the meaning for every tree that the slices hold.
 pub record Reading (table : List ℤ) (driver delay : List ℕ) (limit : List ℤ) (cost : List ℕ) (stages layers width g : ℕ) (arrival : ℤ) (before-times : List ℤ)
     (before : List ℕ) (times : List ℤ) (plan : List ℕ) (i : ℕ) : Type 0 where
   pub inside : i ≤ stages
   pub times-long : length times ≡ length before-times
   pub plan-long : length plan ≡ length before
-  pub bounded : (j : ℕ) → i ≤ j → j < stages → (0 < j → getD driver j 0 < i) → Bounded i (timeAt times j)
+  pub bounded : (T : StageTree) (S : Sized T table driver delay limit cost stages width g) → layers ≡ T .layers → arrival ≡ T .arrival
+      → (j : ℕ) → i ≤ j → j < stages → (0 < j → getD driver j 0 < i) → Bounded (S .laid .delays-to j) (timeAt times j)
   pub is : (T : StageTree) (k : ℕ) (lo : ℤ) → Finished T k lo table driver delay limit cost stages width g → layers ≡ T .layers → arrival ≡ T .arrival
       → leZ lo (T .arrival) ≡ true → treeLeast T k (width - 1) < width → Going T k lo width before times plan i
 
 -- At the start stage 0 alone is reached.
 pub reading-start : {table : List ℤ} {driver delay : List ℕ} {limit : List ℤ} {cost : List ℕ} {stages layers width g : ℕ} {arrival : ℤ} {before : List ℕ}
-    (lent : List ℤ) (T : StageTree) → Sized T table driver delay limit cost stages width g → arrival ≡ T .arrival → stages ≤ length lent
+    (lent : List ℤ) (T : StageTree) → Sized T table driver delay limit cost stages width g → stages ≤ length lent
     → Reading table driver delay limit cost stages layers width g arrival (set lent 0 arrival) before (set lent 0 arrival) before 0
-reading-start {driver = driver} {width = width} {arrival = arrival} lent T S e long = record {
+reading-start {driver = driver} {width = width} {arrival = arrival} lent T S long = record {
   inside = omega arith;
   times-long = refl;
   plan-long = refl;
-  bounded = λ j a b driven. bounded j driven;
+  bounded = λ T S el ea j a b driven. bounded (S .laid .delays-to) (rw ea (S .laid .arrival-most)) j driven;
   is = λ T k lo F el ea from-lo small. record {
     reached = λ j. T .arrival;
     layers-read = [];
@@ -77,9 +78,9 @@ reading-start {driver = driver} {width = width} {arrival = arrival} lent T S e l
     written : timeAt (set lent 0 arrival) 0 ≡ arrival
     written = getD-set-same lent 0 arrival (pos 0) (omega (arith, S .tree .some-stage, S .stages-are))
 
-    bounded : (j : ℕ) → (0 < j → getD driver j 0 < 0) → Bounded 0 (timeAt (set lent 0 arrival) j)
-    bounded zero driven = rw (written, e) (omega (arith, S .laid .arrival-most), omega (arith, S .laid .arrival-most))
-    bounded (suc j) driven = absurd (omega (arith, driven (omega arith)))
+    bounded : (to : ℕ → ℕ) → (up arrival ≤ maxTime) × (down arrival ≤ maxTime) → (j : ℕ) → (0 < j → getD driver j 0 < 0) → Bounded (to j) (timeAt (set lent 0 arrival) j)
+    bounded to most zero driven = rw written (omega (arith, most), omega (arith, most))
+    bounded to most (suc j) driven = absurd (omega (arith, driven (omega arith)))
 
     agree : (T : StageTree) (j : ℕ) → isReached T 0 j ≡ true → timeAt (set lent 0 arrival) j ≡ arrival
     agree T zero r = written
@@ -89,20 +90,21 @@ module _ {table : List ℤ} {driver delay : List ℕ} {limit : List ℤ} {cost :
   module _ {times : List ℤ} {plan : List ℕ} {i : ℕ} (here : Reading table driver delay limit cost stages layers width g arrival before-times before times plan i)
       (h : i < stages) where
     -- Stage i is reached, so its time is not far from 0.
-    reading-bounded : (T : StageTree) → Sized T table driver delay limit cost stages width g → Bounded i (timeAt times i)
-    reading-bounded T S = here .bounded i (omega arith) h (λ some. lower i some (omega (arith, S .stages-are)))
+    reading-bounded : (T : StageTree) (S : Sized T table driver delay limit cost stages width g) → layers ≡ T .layers → arrival ≡ T .arrival
+        → Bounded (S .laid .delays-to i) (timeAt times i)
+    reading-bounded T S el ea = here .bounded T S el ea i (omega arith) h (λ some. lower i some (omega (arith, S .stages-are)))
       where
         lower : (j : ℕ) → 0 < j → j < T .stages → getD driver j 0 < j
         lower zero some inside = absurd (omega arith)
         lower (suc j) some inside = omega (arith, S .laid .driver-at (suc j) some inside, S .tree .lower j)
 
-    pub reading-near : (T : StageTree) → Sized T table driver delay limit cost stages width g → Near (timeAt times i)
-    reading-near T S = let (a, b) = reading-bounded T S in (omega (arith, S .laid .few-stages, S .stages-are), omega arith)
+    pub reading-near : (T : StageTree) → Sized T table driver delay limit cost stages width g → layers ≡ T .layers → arrival ≡ T .arrival → Near (timeAt times i)
+    reading-near T S el ea = let (a, b) = reading-bounded T S el ea in (omega (arith, S .laid .delays-most i (omega (arith, S .stages-are))), omega arith)
 
     -- What passing the time on asks.
-    pub push-in : (T : StageTree) → Sized T table driver delay limit cost stages width g → layers ≡ T .layers → stages ≤ length before-times → {l : ℕ} → l < layers
-        → PushIn driver delay times stages i l
-    push-in T S e long {l} small =
+    pub push-in : (T : StageTree) → Sized T table driver delay limit cost stages width g → layers ≡ T .layers → arrival ≡ T .arrival → stages ≤ length before-times
+        → {l : ℕ} → l < layers → PushIn driver delay times stages i l
+    push-in T S e ea long {l} small =
         let L = S .laid in
         record {
           inside = h;
@@ -112,31 +114,30 @@ module _ {table : List ℤ} {driver delay : List ℕ} {limit : List ℤ} {cost :
           layer-inside = omega (arith, L .few-layers);
           delay-most = λ j a b.
               let low : j < T .stages = omega (arith, S .stages-are) in
-              omega (arith, L .delay-at j l (omega arith) low (omega arith), L .delay-most j l (omega arith) low (omega arith));
-          near = reading-near T S;
+              omega (arith, L .delay-at j l (omega arith) low (omega arith), L .delay-most j l (omega arith) low (omega arith), L .delays-most j low);
+          near = reading-near T S e ea;
         }
 
     module _ {l : ℕ} {after : List ℤ} (N : Layer table driver delay limit cost stages layers width g i (timeAt times i) l) (P : Pushed driver delay times stages i l after) where
-      bounded-more : (T : StageTree) → Sized T table driver delay limit cost stages width g → layers ≡ T .layers
-          → (j : ℕ) → i + 1 ≤ j → j < stages → (0 < j → getD driver j 0 < i + 1) → Bounded (i + 1) (timeAt after j)
-      bounded-more T S e j a b driven = rw (P .is j (omega arith) b) (go (eqb (getD driver j 0) i) refl)
+      bounded-more : (T : StageTree) (S : Sized T table driver delay limit cost stages width g) → layers ≡ T .layers → arrival ≡ T .arrival
+          → (j : ℕ) → i + 1 ≤ j → j < stages → (0 < j → getD driver j 0 < i + 1) → Bounded (S .laid .delays-to j) (timeAt after j)
+      bounded-more T S e ea j a b driven = rw (P .is j (omega arith) b) (go (eqb (getD driver j 0) i) refl)
         where
           L : Laid T driver delay limit cost
           L = S .laid
 
-          most : onLayer delay j l ≤ maxDelay
-          most =
-              let low : j < T .stages = omega (arith, S .stages-are) in
-              omega (arith, N .most, L .delay-at j l (omega arith) low (omega (arith, N .most)), L .delay-most j l (omega arith) low (omega (arith, N .most)))
+          low : j < T .stages
+          low = omega (arith, S .stages-are)
 
-          go : (b : Bool) → eqb (getD driver j 0) i ≡ b → Bounded (i + 1) (if b then arriveAt delay j l (timeAt times i) else timeAt times j)
+          go : (b : Bool) → eqb (getD driver j 0) i ≡ b → Bounded (L .delays-to j) (if b then arriveAt delay j l (timeAt times i) else timeAt times j)
           go true q =
-              let (u, v) = reading-bounded T S in
-              (omega (arith, plus-up (timeAt times i) (onLayer delay j l), most), omega (arith, plus-down (timeAt times i) (onLayer delay j l)))
-          go false q =
-              let other = eqb-false (getD driver j 0) i q in
-              let (u, v) = here .bounded j (omega arith) b (λ some. omega (arith, driven some)) in
-              (omega arith, omega arith)
+              let (u, v) = reading-bounded T S e ea in
+              let same = ap (L .delays-to) (sym (eqb-true (getD driver j 0) i q) ∙ L .driver-at j (omega arith) low) in
+              let small : l < T .layers = omega (arith, N .most) in
+              let most = L .delay-most j l (omega arith) low small in
+              let d = L .delay-at j l (omega arith) low small in
+              (omega (arith, plus-up (timeAt times i) (onLayer delay j l)), omega (arith, plus-down (timeAt times i) (onLayer delay j l)))
+          go false q = let other = eqb-false (getD driver j 0) i q in here .bounded T S e ea j (omega arith) b (λ some. omega (arith, driven some))
 
       module _ (T : StageTree) (k : ℕ) (lo : ℤ) (F : Finished T k lo table driver delay limit cost stages width g) (el : layers ≡ T .layers)
           (G : Going T k lo width before times plan i) (long : stages ≤ length before) where
@@ -215,13 +216,13 @@ module _ {table : List ℤ} {driver delay : List ℕ} {limit : List ℤ} {cost :
           from-lo = later-more;
         }
 
-      pub reading-more : (T : StageTree) → Sized T table driver delay limit cost stages width g → layers ≡ T .layers → stages ≤ length before
-          → length after ≡ length times → Reading table driver delay limit cost stages layers width g arrival before-times before after (set plan i l) (i + 1)
-      reading-more T S e long same = record {
+      pub reading-more : stages ≤ length before → length after ≡ length times
+          → Reading table driver delay limit cost stages layers width g arrival before-times before after (set plan i l) (i + 1)
+      reading-more long same = record {
         inside = omega arith;
         times-long = same ∙ here .times-long;
         plan-long = length-set plan i l ∙ here .plan-long;
-        bounded = bounded-more T S e;
+        bounded = bounded-more;
         is = λ T k lo F el ea from-lo small. rw add-one (going-more T k lo F el (here .is T k lo F el ea from-lo small) long (here .plan-long));
       }
 

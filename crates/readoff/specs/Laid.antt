@@ -29,11 +29,11 @@ abbrev pub limitOf : List ℤ → ℤ
 limitOf [] = noLimit
 limitOf (r ∷ rs) = leastOf (r ∷ rs)
 
--- The most that a delay to a stage can be, so that 64 of them fit.
+-- The most that the delays on the way to a stage can add up to, and so the most that one of them can be.
 abbrev pub maxDelay : ℕ
-maxDelay = 2 ^ 55
+maxDelay = 2 ^ 61
 
--- The slices hold the numbers of tree T, which are small enough for 64 bits: 64 delays can be added to the arrival time.
+-- The slices hold the numbers of tree T, which are small enough for 64 bits: the delays on the way to a stage can be added to the arrival time.
 pub record Laid (T : StageTree) (driver delay : List ℕ) (limit : List ℤ) (cost : List ℕ) : Type 0 where
   pub few-stages : T .stages ≤ 64
   pub few-layers : T .layers ≤ maxLayers
@@ -45,7 +45,10 @@ pub record Laid (T : StageTree) (driver delay : List ℕ) (limit : List ℤ) (co
   pub delay-at : (j l : ℕ) → 0 < j → j < T .stages → l < T .layers → onLayer delay j l ≡ T .delay j l
   pub limit-at : (i l : ℕ) → i < T .stages → l < T .layers → getD limit (i * maxLayers + l) (pos 0) ≡ limitOf (T .limits i l)
   pub cost-at : (i l : ℕ) → i < T .stages → l < T .layers → onLayer cost i l ≡ T .cost i l
-  pub delay-most : (j l : ℕ) → 0 < j → j < T .stages → l < T .layers → T .delay j l ≤ maxDelay
+  -- the most that the delays on the way to each stage add up to, whatever the layers
+  pub delays-to : ℕ → ℕ
+  pub delay-most : (j l : ℕ) → 0 < j → j < T .stages → l < T .layers → delays-to (T .driver j) + T .delay j l ≤ delays-to j
+  pub delays-most : (j : ℕ) → j < T .stages → delays-to j < maxDelay
   pub limit-most : (i l : ℕ) → i < T .stages → l < T .layers → (up (limitOf (T .limits i l)) ≤ 2 ^ 62) × (down (limitOf (T .limits i l)) ≤ 2 ^ 62)
   pub cost-most : (i l : ℕ) → i < T .stages → l < T .layers → T .cost i l < 2 ^ 28
   pub arrival-most : (up (T .arrival) ≤ maxTime) × (down (T .arrival) ≤ maxTime)

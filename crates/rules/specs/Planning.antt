@@ -3,11 +3,12 @@ use mathlib.Core.Path.{_≡_}
 use mathlib.Core.Bool.{Bool, true, _&&_}
 use mathlib.Core.Option.{Option, none, some}
 use mathlib.Core.List.{List, _++_}
-use Prim.Native.Nat.{ℕ, _+_, _*_, _≤_}
+use Prim.Native.Nat.{ℕ, _+_, _*_, _/_, _-_, _≤_}
 use lib.Dec.{leb, ltb, eqb}
-use lib.ListN.{length, drop, replicate}
+use lib.ListN.{length, take, drop, replicate}
 use lib.IntN.{ℤ, pos}
 use Rattle.laws.specs.Basic.{if_then_else_, within}
+use Rattle.rules.specs.declared.Planned.{Planned}
 use Rattle.rules.specs.Tree.{Net, stages, isPlan}
 use Rattle.rules.specs.Timing.{slack, meets, cost}
 use Rattle.rules.specs.Grain.{meetingPlans, grainExponent, chosen, columns, columnsNeeded}
@@ -73,3 +74,34 @@ plan bs p q table buffer = elim (planned bs p q (length table) (length buffer)) 
 pub record IsFloor (n : Net) (p q planCost floor : ℕ) : Type 0 where
   pub below : (x : List ℕ) → isPlan n x ≡ true → meets n x ≡ true → floor ≤ cost n x
   pub near : q * planCost ≤ (q + p) * floor
+
+-- An answer with what it leaves in buffer and table, but for the floor.
+abbrev pub planAnswer : Planned → List ℕ → List ℤ → PlanAnswer
+planAnswer r buffer table = record { refusal = r .refusal; cost = r .cost; slack = r .slack; k = r .k; buffer = buffer; table = table }
+
+-- The floor's promise: on acceptance the two bounds, for the net that the bytes hold; 0 on a refusal.
+pub record FloorPromise (bs : List ℕ) (p q : ℕ) (r : Planned) : Type 0 where
+  pub bounded : (n : Net) → read bs ≡ accept n → r .refusal ≡ 0 → IsFloor n p q (r .cost) (r .floor)
+  pub zero-refused : (r .refusal ≡ 0 → ⊥) → r .floor ≡ 0
+
+-- s plus 2qs/p rounded up.
+unfoldable pub enoughColumns : ℕ → ℕ → ℕ → ℕ
+enoughColumns p q s = s + (2 * q * s + (p - 1)) / p
+
+-- Some plan of the net meets timing.
+abbrev pub Plannable : Net → Type 0
+Plannable n = (x : List ℕ) × (isPlan n x ≡ true) × (meets n x ≡ true)
+
+-- Demand 3, whole: whatever net bytes, share, table and plan buffer are handed in. `after` is the plan buffer afterwards.
+pub record Demand3 (bs : List ℕ) (p q : ℕ) (table : List ℤ) (buffer after : List ℕ) (r : Planned) : Type 0 where
+  -- If planning accepts, the first s bytes of the buffer are a plan of the net read from those bytes, it meets timing, it costs what the answer says, and
+  -- q × cost is at most (q + p) × the cost of every plan of that net that meets timing.
+  pub near : (n : Net) → read bs ≡ accept n → r .refusal ≡ 0
+      → (isPlan n (take (stages n) after) ≡ true) × (meets n (take (stages n) after) ≡ true) × (cost n (take (stages n) after) ≡ r .cost)
+      × ((y : List ℕ) → isPlan n y ≡ true → meets n y ≡ true → q * cost n (take (stages n) after) ≤ (q + p) * cost n y)
+  -- With p at least 1, s plus 2qs/p columns, rounded up, are never too few, whatever stands in the table.
+  pub never-short : (n : Net) → read bs ≡ accept n → 1 ≤ p → enoughColumns p q (stages n) * (stages n + 2) ≤ length table → r .refusal ≡ 12 → ⊥
+  -- With the share in its range and the plan buffer in order the net is then planned, if any plan of it meets timing.
+  pub planned : (n : Net) → read bs ≡ accept n → 1 ≤ p → p ≤ maxShare → 1 ≤ q → q ≤ maxShare → stages n ≤ length buffer
+      → enoughColumns p q (stages n) * (stages n + 2) ≤ length table → Plannable n → r .refusal ≡ 0
+

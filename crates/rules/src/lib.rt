@@ -51,3 +51,12 @@ pub struct Judged {
     pub cost: u64,
     pub slack: i64,
 }
+
+// What planning answers (01, Planning): a refusal number, 0 if accepted, the plan's cost and slack, k of the grain 2^k, and a floor.
+pub struct Planned {
+    pub refusal: u8,
+    pub cost: u64,
+    pub slack: i64,
+    pub k: u64,
+    pub floor: u64,
+}

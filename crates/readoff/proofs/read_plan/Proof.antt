@@ -42,7 +42,7 @@ slice-set-from-arrival c = let p = c .before .before .before .before .pre in ome
 loop-holds : tie.Need-loop-holds Inv-loop μ-loop
 loop-holds c =
     let s = c .before .before .before .before in
-    reading-start (s .args .times .now) (s .pre .tree) (s .pre .sized) (toZ-ofZ (s .fits .arrival) ∙ s .pre .arrival-is) (s .pre .times-long)
+    reading-start (s .args .times .now) (s .pre .tree) (s .pre .sized) (s .pre .times-long)
 
 mul-t : tie.Need-mul-t Inv-loop μ-loop
 mul-t c = let p = c .before .before .before .before .before .before .pre in omega (arith, p .sized .stages-are, p .sized .laid .few-stages)
@@ -54,7 +54,8 @@ layer-for-requires : tie.Need-layer-for-requires Inv-loop μ-loop
 layer-for-requires c κs =
     let p = c .before .before .before .before .before .before .before .pre in
     let h = c .before .loop-test .taken in
-    ((p .tree, p .sized, p .layers-are), h, rw (time-is c) (reading-near (c .before .before .loop .inv) h (p .tree) (p .sized)))
+    let arrival = toZ-ofZ (c .before .before .before .before .before .before .before .fits .arrival) ∙ p .arrival-is in
+    ((p .tree, p .sized, p .layers-are), h, rw (time-is c) (reading-near (c .before .before .loop .inv) h (p .tree) (p .sized) (p .layers-are) arrival))
 
 cast-plan : tie.Need-cast-plan Inv-loop μ-loop
 cast-plan c =
@@ -68,7 +69,8 @@ push-requires : tie.Need-push-requires Inv-loop μ-loop
 push-requires c κs =
     let p = c .before .before .before .before .before .before .before .before .before .pre in
     let h = c .before .before .before .loop-test .taken in
-    push-in (c .before .before .before .before .loop .inv) h (p .tree) (p .sized) (p .layers-are) (simp length-set (p .times-long)) (c .before .layer-for .ensures .most)
+    let arrival = toZ-ofZ (c .before .before .before .before .before .before .before .before .before .fits .arrival) ∙ p .arrival-is in
+    push-in (c .before .before .before .before .loop .inv) h (p .tree) (p .sized) (p .layers-are) arrival (simp length-set (p .times-long)) (c .before .layer-for .ensures .most)
 
 add-i : tie.Need-add-i Inv-loop μ-loop
 add-i c = search needs
@@ -82,7 +84,7 @@ loop-again c =
     let layer = rw (time-is (c .before .before .before .before)) at (c .before .before .before .layer-for .ensures) in
     let push = c .before .push in
     let h = c .before .before .before .before .before .loop-test .taken in
-    reading-more (c .before .before .before .before .before .before .loop .inv) h layer (push .ensures) (p .tree) (p .sized) (p .layers-are) (p .plan-long) (push .kept .1 .1 .0)
+    reading-more (c .before .before .before .before .before .before .loop .inv) h layer (push .ensures) (p .plan-long) (push .kept .1 .1 .0)
 
 same-length : tie.Need-same-length Inv-loop μ-loop
 same-length c = long (c .before)

@@ -1,0 +1,4 @@
+pub mod General
+pub mod Problem
+pub mod Contracts
+pub mod Planned

@@ -1,0 +1,47 @@
+-- What a sink asks fits 64 bits, and is compared as it is; one layer more of a row of limits.
+use mathlib.Core.Path.{_≡_, refl, ap, _∙_}
+use mathlib.Core.Bool.{true, false}
+use mathlib.Core.List.{List}
+use Prim.Native.Nat.{ℕ, _+_, _*_, _≤_, _<_}
+use native.Mathlib.Omega.{arith}
+use lib.IntN.{ℤ, pos, _-ℤ_}
+use lib.ListN.{getD, set}
+use lib.Signed.{leZ}
+use mir.Facts.{toZ-ofZ, toZ-pos}
+use mir.Syntax.{w64}
+use mir.Val.{SFits, toZ, ofZ}
+use Rattle.laws.specs.Basic.{minZ}
+use Rattle.laws.specs.Integers.{fits-parts, minus-up, minus-down, pos-view}
+use Rattle.rules.specs.Bytes.{maxLayers}
+use Rattle.facts.specs.Ranges.{TimeInRange}
+use Rattle.facts.specs.Fits.{halfRange}
+use Rattle.delays.specs.Tables.{entry}
+use Rattle.stage_numbers.specs.Rows.{RowOf, Setting, lowered, next-kept, setting-more}
+
+-- A required time.
+pub time-fits : (r : ℤ) → TimeInRange r → SFits w64 r
+time-fits r (high, low) = fits-parts r (omega arith) (omega arith)
+
+-- A required time minus a delay.
+module _ (r : ℤ) (d : ℕ) (small : d ≤ halfRange) where
+  pub asked-fits : TimeInRange r → SFits w64 (r -ℤ pos d)
+  asked-fits (high, low) =
+      fits-parts (r -ℤ pos d) (omega (arith, minus-up r (pos d), pos-view d)) (omega (arith, minus-down r (pos d), pos-view d))
+
+  pub asked-is : SFits w64 r → toZ w64 (ofZ w64 r) -ℤ toZ w64 d ≡ r -ℤ pos d
+  asked-is fit = rw (toZ-ofZ fit, toZ-pos w64 {n = d} (omega arith))
+
+-- The lesser of two, as it is chosen.
+pub min-first : (a b : ℤ) → leZ a b ≡ true → a ≡ minZ a b
+min-first a b e = rw e refl
+
+pub min-second : (a b : ℤ) → leZ a b ≡ false → b ≡ minZ a b
+min-second a b e = rw e refl
+
+-- One layer more: x is the lesser of the limit y that stands there and what the sink asks.
+pub lowered-more : {old limit : List ℤ} (delay : List ℕ) (j : ℕ) (r : ℤ) {t layers l : ℕ} {x y : ℤ} → RowOf old t layers
+    → Setting (pos 0) old limit t layers l (lowered old delay j r t) → l < layers → y ≡ getD limit (t * maxLayers + l) (pos 0)
+    → x ≡ minZ y (r -ℤ pos (entry delay j l)) → Setting (pos 0) old (set limit (t * maxLayers + l) x) t layers (l + 1) (lowered old delay j r t)
+unfolding lowered
+lowered-more delay j r {l = l} {x = x} R S h e q =
+    setting-more x R S h (q ∙ ap (λ (z : ℤ). minZ z (r -ℤ pos (entry delay j l))) (e ∙ next-kept R S h))

@@ -1,0 +1,108 @@
+-- `stage_numbers` is right: before node j the tables hold what the nodes before it give, and at the end all have given theirs.
+use borrow.Author.Needs.{needs}
+use native.Mathlib.Omega.{arith}
+use Prim.Native.Nat.{_+_, _-_, _≤_}
+use mathlib.Core.Path.{_≡_, sym, _∙_, ap}
+use lib.ListN.{length, getD}
+use Rattle.rules.specs.Tree.{at}
+use Rattle.reader.specs.declared.Node.{Node}
+use Rattle.tree.specs.Held.{netOf, held-accepted}
+use Rattle.stage_numbers.specs.Numbered.{Numbering, Turn, numbering-start, turn}
+use Rattle.stage_numbers.specs.Whole.{numbering-end}
+use Rattle.stage_numbers.proofs.stage_numbers.Statement.{statement}
+use Rattle.stage_numbers.proofs.stage_numbers.Tie as tie
+use Rattle.stage_numbers.proofs.stage_numbers.Reads as reads
+use Rattle.stage_numbers.proofs.stage_numbers.Lts as lts
+use Rattle.stage_numbers.proofs.no_limits.Reads as no-limits-reads
+use Rattle.stage_numbers.proofs.note_node.Reads as note-node-reads
+use Rattle.tree.proofs.node_at.Reads as node-at-reads
+
+abbrev Inv-loop : tie.InvT-loop
+Inv-loop net heads layers nodes stage below delay driver₀ wire₀ limit₀ j₀ driver wire limit j = Numbering (netOf net) driver wire limit j
+
+abbrev μ-loop : tie.MeasureT-loop
+μ-loop net heads layers nodes stage below delay driver₀ wire₀ limit₀ j₀ driver wire limit j = nodes + 1 - j
+
+-- the turn at node j
+here : (c : tie.In-loop Inv-loop μ-loop)
+    → Turn (netOf (c .before .before .before .before .before .before .before .before .before .before .before .before .args .net .now)) (c .before .before .before .before .before .before .before .before .before .before .before .before .args .layers) (c .before .before .before .before .before .before .before .before .before .before .before .before .args .delay .now) (c .before .loop .j)
+    (getD (c .before .before .before .before .before .before .before .before .before .before .before .before .args .stage .now) (c .before .loop .j) 0) (getD (c .before .before .before .before .before .before .before .before .before .before .before .before .args .below .now) (c .before .loop .j) 0)
+    (c .before .loop .driver) (c .before .loop .wire) (c .before .loop .limit)
+here c =
+    let p = c .before .before .before .before .before .before .before .before .before .before .before .before .pre in
+    let N = c .before .loop .inv in
+    let inside : c .before .loop .j ≤ length (netOf (c .before .before .before .before .before .before .before .before .before .before .before .before .args .net .now) .nodes) = omega (arith, p .0 .nodes-are, c .loop-test .taken) in
+    turn (held-accepted (p .0)) (p .2) (p .0 .layers-are) N inside (p .1 .stage-is _ (N .some) inside) (p .1 .below-is _ inside)
+
+-- the kind that is read is that of node j
+kind : (c : tie.After-node-at Inv-loop μ-loop) → c .node-at .result .kind ≡ at (netOf (c .before .before .before .before .before .before .before .before .before .before .before .before .before .args .net .now)) (c .before .before .loop .j) .kind
+kind c = ap (λ (m : Node). m .kind) (c .node-at .ensures)
+
+no-limits-requires : tie.Need-no-limits-requires Inv-loop μ-loop
+no-limits-requires c κs = search needs
+
+loop-holds : tie.Need-loop-holds Inv-loop μ-loop
+loop-holds c = let p = c .before .before .before .before .before .before .before .before .before .before .pre in numbering-start (held-accepted (p .0)) (p .3) (p .4) (p .5) (c .before .no-limits .ensures)
+
+node-at-requires : tie.Need-node-at-requires Inv-loop μ-loop
+node-at-requires c κs = (_, c .before .before .before .before .before .before .before .before .before .before .before .before .pre .0, c .before .loop .inv .some, c .loop-test .taken)
+
+mul-above : tie.Need-mul-above Inv-loop μ-loop
+mul-above c = let t = here (c .before) in omega (arith, t .node-in)
+
+shared-slice-read-above : tie.Need-shared-slice-read-above Inv-loop μ-loop
+shared-slice-read-above c = let t = here (c .before .before) in omega (arith, t .node-in, c .before .before .before .before .before .before .before .before .before .before .before .before .before .before .pre .1 .stage-long)
+
+mul-own : tie.Need-mul-own Inv-loop μ-loop
+mul-own c = let t = here (c .before .before) in omega (arith, t .node-in)
+
+shared-slice-read-own : tie.Need-shared-slice-read-own Inv-loop μ-loop
+shared-slice-read-own c = let t = here (c .before .before .before) in omega (arith, t .node-in, c .before .before .before .before .before .before .before .before .before .before .before .before .before .before .before .pre .1 .below-long)
+
+note-node-requires : tie.Need-note-node-requires Inv-loop μ-loop
+note-node-requires c κs = rw (kind (c .before .before .before .before .before)) (here (c .before .before .before .before .before .before) .note-in)
+
+add-j : tie.Need-add-j Inv-loop μ-loop
+add-j c = let t = here (c .before .before .before .before .before .before .before .before .before .before .before .before) in omega (arith, t .node-in)
+
+loop-less : tie.Need-loop-less Inv-loop μ-loop
+loop-less c = search needs
+
+loop-again : tie.Need-loop-again Inv-loop μ-loop
+loop-again c = here (c .before .before .before .before .before .before .before .before .before .before .before .before) .onward (rw (kind (c .before .before .before .before .before .before .before .before .before .before .before)) at (c .before .before .before .before .before .note-node .ensures))
+
+same-length : tie.Need-same-length Inv-loop μ-loop
+same-length c = c .before .loop .inv .driven .driver-long ∙ sym (c .before .before .before .before .before .before .before .before .before .before .before .before .pre .3)
+
+same-length-2 : tie.Need-same-length-2 Inv-loop μ-loop
+same-length-2 c = c .before .loop .inv .driven .wire-long ∙ sym (c .before .before .before .before .before .before .before .before .before .before .before .before .pre .4)
+
+same-length-3 : tie.Need-same-length-3 Inv-loop μ-loop
+same-length-3 c = c .before .loop .inv .limited .limit-long ∙ sym (c .before .before .before .before .before .before .before .before .before .before .before .before .pre .5)
+
+returns : tie.Need-returns Inv-loop μ-loop
+returns c =
+    let p = c .before .before .before .before .before .before .before .before .before .before .before .before .pre in
+    λ cost P. numbering-end (held-accepted (p .0)) (c .before .loop .inv) (omega (arith, p .0 .nodes-are, c .loop-test .left)) P
+
+pub stage-numbers-spec : {M : Type 1} → statement M
+stage-numbers-spec =
+    tie.close
+    (tie.spec
+    Inv-loop
+    μ-loop
+    no-limits-requires
+    loop-holds
+    node-at-requires
+    mul-above
+    shared-slice-read-above
+    mul-own
+    shared-slice-read-own
+    note-node-requires
+    add-j
+    loop-less
+    loop-again
+    same-length
+    same-length-2
+    same-length-3
+    returns)

@@ -1,0 +1,6 @@
+pub mod General
+pub mod Rows
+pub mod Limits
+pub mod Noted
+pub mod Numbered
+pub mod Whole
