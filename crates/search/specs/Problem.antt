@@ -54,7 +54,7 @@ module _ {T : StageTree} {driver delay : List ℕ} {limit : List ℤ} {cost : Li
     delays = L .delay-long;
     limits = L .limit-long;
     costs = L .cost-long;
-    delay-range = λ j l a b c. rw (L .delay-at j l a b c) (omega (arith, L .delay-most j l a b c));
+    delay-range = λ j l a b c. rw (L .delay-at j l a b c) (omega (arith, L .delay-most j l a b c, L .delays-most j b));
     limit-range = λ i l a b.
         let (u, d) = L .limit-most i l a b in
         rw (L .limit-at i l a b) (record { above = u; below = d });
