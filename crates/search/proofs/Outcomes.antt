@@ -66,13 +66,14 @@ module _ {T : StageTree} {driver delay : List ℕ} {limit : List ℤ} {cost : Li
   -- The plan that is read off is the plan that 01 chooses.
   pub found : {x : List ℕ} → MeetingPlan T x → {plan planAfter : List ℕ} {after : List ℤ}
       → PlanRead table driver delay limit cost stages layers width g arrival plan planAfter → after ≡ replicate (length table) (pos 0)
-      → IsFound T p q stages start after plan planAfter k v
+      → IsFound T p q stages start after plan planAfter k g v
   found {x} M R e =
       let N = P .numbers in
       let h : value T k ≤ width - 1 = omega (arith, G .value-is, G .fits) in
       let F : Finished T k (T .arrival) table driver delay limit cost stages width g = record { sized = sized; grain-is = G .grain-is; filled = G .filled } in
       record {
         exponent-is = G .exponent-is;
+        grain-is = G .grain-is;
         value-is = G .value-is;
         fits = omega (arith, G .fits, G .most);
         cleared = rw long at e;

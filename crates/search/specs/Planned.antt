@@ -2,7 +2,7 @@
 use mathlib.Core.Path.{_≡_}
 use mathlib.Core.Option.{some}
 use mathlib.Core.List.{List, _++_}
-use Prim.Native.Nat.{ℕ, _+_, _/_, _≤_, _<_}
+use Prim.Native.Nat.{ℕ, _+_, _/_, _^_, _≤_, _<_}
 use lib.ListN.{length, drop, replicate}
 use lib.IntN.{ℤ, pos}
 use Rattle.oracle.specs.Stages.{StageTree}
@@ -35,9 +35,10 @@ module _ (T : StageTree) (p q stages : ℕ) (table tableAfter : List ℤ) (plan 
     pub cleared : tableAfter ≡ replicate (length table) (pos 0)
     pub plan-kept : planAfter ≡ plan
 
-  -- The k of the grain, V(k), and the plan that 01 chooses, in the first bytes of the plan buffer; later bytes keep their values. The table is all zero.
-  pub record IsFound (k v : ℕ) : Type 0 where
+  -- The grain and its k, V(k), and the plan that 01 chooses, in the first bytes of the plan buffer; later bytes keep their values. The table is all zero.
+  pub record IsFound (k g v : ℕ) : Type 0 where
     pub exponent-is : k ≡ exponent T p q
+    pub grain-is : g ≡ 2 ^ k
     pub value-is : v ≡ value T k
     pub fits : v + 1 ≤ columns
     pub cleared : tableAfter ≡ replicate (length table) (pos 0)
@@ -48,4 +49,4 @@ module _ (T : StageTree) (p q stages : ℕ) (table tableAfter : List ℤ) (plan 
   abbrev pub Planned : Outcome → Type 0
   Planned Late = IsLate
   Planned Short = IsShort
-  Planned (Found k v) = IsFound k v
+  Planned (Found k g v) = IsFound k g v

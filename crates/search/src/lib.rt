@@ -16,9 +16,9 @@ ghost use Rattle.search.specs.Contracts.{RoundIn, Round, Feasible, TestI
 ghost use Rattle.search.specs.Planned.{PlanIn, Planned};
 
 // The largest k, and its grain: every plan's cost is below it.
-pub const MAX_EXPONENT: usize = 28;
+const MAX_EXPONENT: usize = 28;
 
-pub const MAX_GRAIN: u64 = 268_435_456;
+const MAX_GRAIN: u64 = 268_435_456;
 
 // The test of the grain g with V(k) = v at share p/q.
 fn qualifies(p: u64, q: u64, stages: usize, g: u64, v: usize) -> bool
@@ -42,8 +42,8 @@ fn value_at(
     width: usize,
 ) -> usize
     requires { ⌜ RoundIn (now table) (now driver) (now delay) (now limit) (now cost) stages layers arrival g width ⌝ }
-    ensures { λ r. ⌜ ((T : StageTree) (k : ℕ) → Numbers T (now (driver .entry)) (now (delay .entry)) (now (limit .entry)) (now (cost .entry)) stages layers arrival → g ≡ 2 ^ k
-        → Round T k width (now (table .exit)) r) ⌝ }
+    ensures { λ r. ⌜ ((T : StageTree) (k : ℕ) → Numbers T (now (driver .entry)) (now (delay .entry)) (now (limit .entry)) (now (cost .entry)) stages layers arrival
+        → g ≡ 2 ^ k → Round T k width (now (table .exit)) r) ⌝ }
 {
     fill_rows(table, driver, delay, limit, cost, stages, layers, g, width);
     first_column(table, 0, width, arrival)
@@ -91,7 +91,7 @@ fn width_for(columns: usize, above: usize, stages: usize) -> usize
 }
 
 // What the descent finds: the grain 2^k = g, V(k) and the columns of the finished table, or that the columns are too few.
-pub enum Search {
+enum Search {
     Short,
     Found {
         k: usize,
@@ -169,11 +169,11 @@ fn clear(table: &mut [i64])
     }
 }
 
-// What planning a tree gives: no plan meets timing, too few columns, or the k of the grain and V(k).
+// What planning a tree gives: no plan meets timing, too few columns, or the grain, its k, and V(k).
 pub enum Outcome {
     Late,
     Short,
-    Found { k: usize, value: usize },
+    Found { k: usize, g: u64, value: usize },
 }
 
 // The plan that 01 chooses, into the first bytes of `plan`.
@@ -229,5 +229,5 @@ pub fn plan_tree(
         plan,
     );
     clear(table);
-    Outcome::Found { k, value }
+    Outcome::Found { k, g, value }
 }

@@ -59,29 +59,33 @@ same-length c = search needs
 
 returns-2 : tie.Need-returns-2 Inv-loop μ-loop
 returns-2 c = λ T P x M.
-    turn-short (c .before .before .before .before .before .before .loop .inv) (omega arith) (c .before .before .before .before .width-for .ensures) (c .before .before .value-at .ensures) (omega arith) T
-    (problem-same (time-is (c .before .before .before .before .before .before .before)) P) x M
+    let w = c .before .before .before .before in
+    turn-short (w .before .before .loop .inv) (omega arith) (w .width-for .ensures) (c .before .before .value-at .ensures) (omega arith) T
+    (problem-same (time-is (w .before .before .before)) P) x M
 
 qualifies-requires : tie.Need-qualifies-requires Inv-loop μ-loop
 qualifies-requires c κs =
-    turn-test (c .before .before .before .before .before .before .loop .inv) (omega arith) (c .before .before .before .before .width-for .ensures) (c .before .before .value-at .ensures) (λ z. omega arith)
-    (asked (c .before .before .before .before .before .before .before))
+    let w = c .before .before .before .before in
+    turn-test (w .before .before .loop .inv) (omega arith) (w .width-for .ensures) (c .before .before .value-at .ensures) (λ z. omega arith) (asked (w .before .before .before))
 
 same-length-2 : tie.Need-same-length-2 Inv-loop μ-loop
 same-length-2 c = search needs
 
 returns-3 : tie.Need-returns-3 Inv-loop μ-loop
 returns-3 c = λ T P x M.
-    turn-found (c .before .before .before .before .before .before .before .before .loop .inv) (omega arith) (c .before .before .before .before .before .before .width-for .ensures) (c .before .before .before .before .value-at .ensures) (λ z. omega arith)
-    (sym (c .before .qualifies .ensures) ∙ c .if3 .taken) T (problem-same (time-is (c .before .before .before .before .before .before .before .before .before)) P) x M
+    let w = c .before .before .before .before .before .before in
+    let test = sym (c .before .qualifies .ensures) ∙ c .if3 .taken in
+    turn-found (w .before .before .loop .inv) (omega arith) (w .width-for .ensures) (c .before .before .before .before .value-at .ensures) (λ z. omega arith) test T
+    (problem-same (time-is (w .before .before .before)) P) x M
 
 loop-less : tie.Need-loop-less Inv-loop μ-loop
 loop-less c = search needs
 
 loop-again : tie.Need-loop-again Inv-loop μ-loop
 loop-again c =
-    turn-more (c .before .before .before .before .before .before .before .before .loop .inv) (omega arith) (c .before .before .before .before .before .before .width-for .ensures) (c .before .before .before .before .value-at .ensures) (λ z. omega arith)
-    (sym (c .before .qualifies .ensures) ∙ c .if3 .left) (omega arith)
+    let w = c .before .before .before .before .before .before in
+    let test = sym (c .before .qualifies .ensures) ∙ c .if3 .left in
+    turn-more (w .before .before .loop .inv) (omega arith) (w .width-for .ensures) (c .before .before .before .before .value-at .ensures) (λ z. omega arith) test (omega arith)
 
 same-length-3 : tie.Need-same-length-3 Inv-loop μ-loop
 same-length-3 c = search needs

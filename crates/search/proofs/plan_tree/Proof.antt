@@ -24,7 +24,8 @@ start c = c .before .before .before .before .before .before
 
 -- some plan meets timing
 meeting : (c : tie.Else1) (T : StageTree)
-    → Numbers T (start c .args .driver .now) (start c .args .delay .now) (start c .args .limit .now) (start c .args .cost .now) (start c .args .stages) (start c .args .layers) (start c .args .arrival)
+    → Numbers T (start c .args .driver .now) (start c .args .delay .now) (start c .args .limit .now) (start c .args .cost .now)
+    (start c .args .stages) (start c .args .layers) (start c .args .arrival)
     → (x : List ℕ) × MeetingPlan T x
 meeting c T N = c .before .feasible .ensures T (numbers-same (time-is (start c)) N) .some (not-false _ (c .if1 .left))
 
@@ -35,7 +36,9 @@ returns : tie.Need-returns
 returns c = λ T P. late (c .before .feasible .ensures T (numbers-same (time-is (c .before .before .before .before .before .before)) (P .numbers))) (not-true _ (c .if1 .taken))
 
 descend-requires : tie.Need-descend-requires
-descend-requires c κs = descend-in (time-is (c .before .before .before .before .before .before .before)) (c .before .before .before .before .before .before .before .pre) (c .before .before .feasible .ensures) (not-false _ (c .before .if1 .left))
+descend-requires c κs =
+    let s = start (c .before) in
+    descend-in (time-is s) (s .pre) (c .before .before .feasible .ensures) (not-false _ (c .before .if1 .left))
 
 enum-known-search : tie.Need-enum-known-search
 enum-known-search c = search needs
@@ -51,20 +54,24 @@ same-length c = search needs
 
 returns-2 : tie.Need-returns-2
 returns-2 c = λ T P.
-    let (x, M) = meeting (c .before .before .before .before .before .before .before .before) T (P .numbers) in
-    let few = rw (c .before .before .before .enum-told .given .1) at (c .before .before .before .before .before .before .descend .ensures T (problem-same (time-is (c .before .before .before .before .before .before .before .before .before .before .before .before .before .before)) P) x M) in
-    short (c .before .before .before .before .before .before .before .before .before .before .before .before .before .before .args .table .now) (c .before .before .before .before .before .before .descend .last .0) (x, M) few (search needs) (c .before .clear .ensures)
+    let d = c .before .before .before .before .before .before in
+    let s = start (d .before .before) in
+    let (x, M) = meeting (d .before .before) T (P .numbers) in
+    let few = rw (c .before .before .before .enum-told .given .1) at (d .descend .ensures T (problem-same (time-is s) P) x M) in
+    short (s .args .table .now) (d .descend .last .0) (x, M) few (search needs) (c .before .clear .ensures)
 
 slice-aggregate-read-plan : tie.Need-slice-aggregate-read-plan
 slice-aggregate-read-plan c = search needs
 
 read-plan-requires : tie.Need-read-plan-requires
 read-plan-requires c κs =
-    let I = c .before .before .before .before .before .before .before .before .before .before .before .before .before .before .before .pre in
-    let (x, M) = meeting (c .before .before .before .before .before .before .before .before .before) (I .tree) (I .problem .numbers) in
-    let P = problem-same (time-is (c .before .before .before .before .before .before .before .before .before .before .before .before .before .before .before)) (I .problem) in
-    let G = rw (c .before .before .before .before .search .given .1) at (c .before .before .before .before .before .before .before .descend .ensures (I .tree) P x M) in
-    read-in P (c .before .before .before .before .before .before .before .before .before .before .before .before .before .before .before .args .table .now) G (search needs) refl (I .plan-long)
+    let d = c .before .before .before .before .before .before .before in
+    let s = start (d .before .before) in
+    let I = s .pre in
+    let (x, M) = meeting (d .before .before) (I .tree) (I .problem .numbers) in
+    let P = problem-same (time-is s) (I .problem) in
+    let G = rw (c .before .before .before .before .search .given .1) at (d .descend .ensures (I .tree) P x M) in
+    read-in P (s .args .table .now) G (search needs) refl (I .plan-long)
 
 clear-requires-2 : tie.Need-clear-requires-2
 clear-requires-2 c κs = search needs
@@ -77,10 +84,13 @@ same-length-3 c = search needs
 
 returns-3 : tie.Need-returns-3
 returns-3 c = λ T Q.
-    let (x, M) = meeting (c .before .before .before .before .before .before .before .before .before .before .before .before .before .before .before .before) T (Q .numbers) in
-    let P = problem-same (time-is (c .before .before .before .before .before .before .before .before .before .before .before .before .before .before .before .before .before .before .before .before .before .before)) Q in
-    let G = rw (c .before .before .before .before .before .before .before .before .before .before .before .search .given .1) at (c .before .before .before .before .before .before .before .before .before .before .before .before .before .before .descend .ensures T P x M) in
-    found P (c .before .before .before .before .before .before .before .before .before .before .before .before .before .before .before .before .before .before .before .before .before .before .args .table .now) G (search needs) M (c .before .before .before .before .before .before .read-plan .ensures) (c .before .clear2 .ensures)
+    let f = c .before .before .before .before .before .before .before .before .before .before .before in
+    let d = f .before .before .before in
+    let s = start (d .before .before) in
+    let (x, M) = meeting (d .before .before) T (Q .numbers) in
+    let P = problem-same (time-is s) Q in
+    let G = rw (f .search .given .1) at (d .descend .ensures T P x M) in
+    found P (s .args .table .now) G (search needs) M (c .before .before .before .before .before .before .read-plan .ensures) (c .before .clear2 .ensures)
 
 pub plan-tree-spec : {M : Type 1} → statement M
 plan-tree-spec =

@@ -15,7 +15,9 @@ same-length : tie.Need-same-length
 same-length c = search needs
 
 returns : tie.Need-returns
-returns c = round-is (c .before .before .before .before .before .before .before .before .pre) (c .before .before .before .fill-rows .ensures) (toZ-ofZ (c .before .before .before .before .before .before .before .before .fits .arrival)) (c .first-column .ensures)
+returns c =
+    let s = c .before .before .before .before .before .before .before .before in
+    round-is (s .pre) (c .before .before .before .fill-rows .ensures) (toZ-ofZ (s .fits .arrival)) (c .first-column .ensures)
 
 pub value-at-spec : {M : Type 1} → statement M
 value-at-spec = tie.close (tie.spec fill-rows-requires first-column-requires same-length returns)

@@ -1,0 +1,116 @@
+-- Planning a net that was read: the outcome of the search over its tree of stages, in the words of 01.
+use mathlib.Core.Path.{_≡_, refl, ap, sym, _∙_}
+use mathlib.Core.Bool.{Bool, true, false}
+use mathlib.Core.Option.{some}
+use mathlib.Core.List.{List, _++_}
+use Prim.Native.Nat.{ℕ, zero, suc, _+_, _*_, _/_, _^_, _≤_, _<_}
+use native.Mathlib.Omega.{arith}
+use native.Mathlib.Nat.{pow-suc, mul-comm}
+use lib.Dec.{leb, ltb}
+use lib.ListN.{length, take, drop, replicate}
+use lib.Seq.{take-at}
+use lib.IntN.{ℤ, pos}
+use borrow.Author.Tests.{le-leb, lt-leb}
+use Rattle.rules.specs.declared.Planned.{Planned}
+use Rattle.rules.specs.Tree.{Net, stages, layerCount, isPlan}
+use Rattle.rules.specs.Timing.{cost, slack}
+use Rattle.rules.specs.Grain.{maxExponent, meetingPlans, leastRounded, grainExponent, chosen, columns, columnsNeeded}
+use Rattle.rules.specs.Planning.{IsFloor, cleared}
+use Rattle.facts.specs.Accepted.{Accepted}
+use Rattle.oracle.specs.Stages.{StageTree}
+use Rattle.oracle.specs.Value.{value, exponent, firstPlan, MeetingPlan}
+use Rattle.demands.specs.StageNumbers.{treeOf, well-formed}
+use Rattle.demands.specs.Same.{value-same, exponent-same, first-same}
+use Rattle.demands.specs.Plans.{some-plan-iff, some-meeting, meeting, meeting-is, plan-length}
+use Rattle.demands.specs.Values.{small-costs, grain-small}
+use Rattle.demands.specs.Demand2.{ChosenPlan, chosen-is}
+use Rattle.demands.specs.Demand3.{chosen-floor}
+use Rattle.readoff.specs.Laid.{Laid}
+use Rattle.search.specs.Problem.{Numbers, Problem}
+use Rattle.search.specs.Planned.{IsLate, IsShort, IsFound}
+
+-- the search's problem, from the numbers of the net
+pub problem-of : {n : Net} → Accepted n → {driver wire : List ℕ} {limit : List ℤ} {costs : List ℕ} → Laid (treeOf n) driver wire limit costs → {s l : ℕ} {a : ℤ} {p q : ℕ}
+    → s ≡ stages n → l ≡ layerCount n → a ≡ n .driver .arrival → p ≤ 1000 → 1 ≤ q → q ≤ 1000 → Problem (treeOf n) driver wire limit costs s l a p q
+problem-of A L es el ea hp hq hq′ = record {
+  numbers = record { laid = L; tree = well-formed A; stages-are = es; layers-are = el; arrival-is = ea; cheap = small-costs A };
+  share = hp;
+  some-part = hq;
+  parts = hq′;
+}
+
+module _ {n : Net} (A : Accepted n) where
+  -- no plan meets timing: refusal 11
+  pub late : {p q s : ℕ} {table after : List ℤ} {plan planAfter : List ℕ} → IsLate (treeOf n) p q s table after plan planAfter → ltb 0 (length (meetingPlans n)) ≡ false
+  late I = go (ltb 0 (length (meetingPlans n))) refl
+    where
+      go : (b : Bool) → ltb 0 (length (meetingPlans n)) ≡ b → ltb 0 (length (meetingPlans n)) ≡ false
+      go true e = let (x, M) = some-meeting A e in absurd (I .none x M)
+      go false e = e
+
+  some-of : (x : List ℕ) → MeetingPlan (treeOf n) x → ltb 0 (length (meetingPlans n)) ≡ true
+  some-of x M = let (p, m) = meeting-is A x M in some-plan-iff n .1 (x, p, m)
+
+  grain-value : (p q : ℕ) → value (treeOf n) (exponent (treeOf n) p q) ≡ leastRounded n (grainExponent n p q)
+  grain-value p q = ap (value (treeOf n)) (exponent-same A p q) ∙ value-same A (grainExponent n p q)
+
+  -- too few columns: refusal 12
+  pub record TooShort (p q entries : ℕ) : Type 0 where
+    pub some-meets : ltb 0 (length (meetingPlans n)) ≡ true
+    pub few : leb (columnsNeeded n (grainExponent n p q)) (columns n entries) ≡ false
+
+  pub short : {p q s : ℕ} {table after : List ℤ} {plan planAfter : List ℕ} → s ≡ stages n → IsShort (treeOf n) p q s table after plan planAfter → TooShort p q (length table)
+  unfolding columnsNeeded columns
+  short {p} {q} {table = table} es I =
+      let (x, M) = I .meeting in
+      record {
+        some-meets = some-of x M;
+        few = lt-leb (leastRounded n (grainExponent n p q) + 1) (length table / (stages n + 2)) (omega (arith, rw es at (I .few), grain-value p q));
+      }
+
+  -- the plan that 01 chooses: acceptance
+  pub record Served (p q entries : ℕ) (k v : ℕ) (plan planAfter : List ℕ) : Type 0 where
+    pub some-meets : ltb 0 (length (meetingPlans n)) ≡ true
+    pub enough : leb (columnsNeeded n (grainExponent n p q)) (columns n entries) ≡ true
+    pub exponent-is : k ≡ grainExponent n p q
+    pub value-is : v ≡ leastRounded n k
+    pub x : List ℕ
+    pub chosen-here : chosen n (grainExponent n p q) ≡ some x
+    pub is-plan : isPlan n x ≡ true
+    pub sized : length x ≡ stages n
+    pub after-is : planAfter ≡ x ++ drop (length x) plan
+    pub taken-is : take (stages n) planAfter ≡ x
+
+  pub served : {p q s k v : ℕ} {table after : List ℤ} {plan planAfter : List ℕ} → s ≡ stages n → IsFound (treeOf n) p q s table after plan planAfter k v
+      → Served p q (length table) k v plan planAfter
+  unfolding columnsNeeded columns
+  served {p} {q} {s} {k} {v} {table} {after} {plan} {planAfter} es I =
+      let ek : k ≡ grainExponent n p q = I .exponent-is ∙ exponent-same A p q in
+      let ev : v ≡ leastRounded n k = I .value-is ∙ value-same A k in
+      let o : chosen n (grainExponent n p q) ≡ some (I .chosen) = sym (first-same A (grainExponent n p q)) ∙ (ap (firstPlan (treeOf n)) (sym ek) ∙ I .chosen-is) in
+      let C = chosen-is n (grainExponent n p q) (I .chosen) o in
+      let len : length (I .chosen) ≡ stages n = plan-length n (I .chosen) (C .is-plan) in
+      let b : planAfter ≡ I .chosen ++ drop (length (I .chosen)) plan = I .plan-is ∙ ap (λ (i : ℕ). I .chosen ++ drop i plan) (es ∙ sym len) in
+      record {
+        some-meets = some-plan-iff n .1 (I .chosen, C .is-plan, C .meets-timing);
+        enough = le-leb (leastRounded n (grainExponent n p q) + 1) (length table / (stages n + 2)) (omega (arith, rw es at (I .fits), ev, ap (leastRounded n) ek));
+        exponent-is = ek;
+        value-is = ev;
+        x = I .chosen;
+        chosen-here = o;
+        is-plan = C .is-plan;
+        sized = len;
+        after-is = b;
+        taken-is = ap (λ (i : ℕ). take i planAfter) (sym len) ∙ (ap (take (length (I .chosen))) b ∙ take-at (I .chosen) (drop (length (I .chosen)) plan) (length (I .chosen)) refl);
+      }
+
+  -- the floor g × V(k) keeps both bounds, and is small
+  pub floor-is : {p q entries k v : ℕ} {plan planAfter : List ℕ} (S : Served p q entries k v plan planAfter) → IsFloor n p q (cost n (S .x)) (v * 2 ^ k)
+  floor-is {p} {q} {k = k} {v = v} S =
+      let F = chosen-floor A p q (S .x) (S .chosen-here) in
+      let e : 2 ^ grainExponent n p q * leastRounded n (grainExponent n p q) ≡ v * 2 ^ k =
+      ap (λ (i : ℕ). 2 ^ i * leastRounded n i) (sym (S .exponent-is)) ∙ (ap (λ (i : ℕ). 2 ^ k * i) (sym (S .value-is)) ∙ mul-comm (2 ^ k) v) in
+      rw (← e) F
+
+  pub floor-low : {p q entries k v : ℕ} {plan planAfter : List ℕ} (S : Served p q entries k v plan planAfter) → v * 2 ^ k < 2 ^ maxExponent
+  floor-low {k = k} {v = v} S = omega (arith, grain-small A k, ap (λ (i : ℕ). 2 ^ k * i) (S .value-is), mul-comm (2 ^ k) v)
