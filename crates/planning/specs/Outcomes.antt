@@ -69,10 +69,11 @@ module _ {n : Net} (A : Accepted n) where
       }
 
   -- the plan that 01 chooses: acceptance
-  pub record Served (p q entries : ℕ) (k v : ℕ) (plan planAfter : List ℕ) : Type 0 where
+  pub record Served (p q entries : ℕ) (k g v : ℕ) (plan planAfter : List ℕ) : Type 0 where
     pub some-meets : ltb 0 (length (meetingPlans n)) ≡ true
     pub enough : leb (columnsNeeded n (grainExponent n p q)) (columns n entries) ≡ true
     pub exponent-is : k ≡ grainExponent n p q
+    pub grain-is : g ≡ 2 ^ k
     pub value-is : v ≡ leastRounded n k
     pub x : List ℕ
     pub chosen-here : chosen n (grainExponent n p q) ≡ some x
@@ -81,10 +82,10 @@ module _ {n : Net} (A : Accepted n) where
     pub after-is : planAfter ≡ x ++ drop (length x) plan
     pub taken-is : take (stages n) planAfter ≡ x
 
-  pub served : {p q s k v : ℕ} {table after : List ℤ} {plan planAfter : List ℕ} → s ≡ stages n → IsFound (treeOf n) p q s table after plan planAfter k v
-      → Served p q (length table) k v plan planAfter
+  pub served : {p q s k g v : ℕ} {table after : List ℤ} {plan planAfter : List ℕ} → s ≡ stages n → IsFound (treeOf n) p q s table after plan planAfter k g v
+      → Served p q (length table) k g v plan planAfter
   unfolding columnsNeeded columns
-  served {p} {q} {s} {k} {v} {table} {after} {plan} {planAfter} es I =
+  served {p} {q} {s} {k} {g} {v} {table} {after} {plan} {planAfter} es I =
       let ek : k ≡ grainExponent n p q = I .exponent-is ∙ exponent-same A p q in
       let ev : v ≡ leastRounded n k = I .value-is ∙ value-same A k in
       let o : chosen n (grainExponent n p q) ≡ some (I .chosen) = sym (first-same A (grainExponent n p q)) ∙ (ap (firstPlan (treeOf n)) (sym ek) ∙ I .chosen-is) in
@@ -95,6 +96,7 @@ module _ {n : Net} (A : Accepted n) where
         some-meets = some-plan-iff n .1 (I .chosen, C .is-plan, C .meets-timing);
         enough = le-leb (leastRounded n (grainExponent n p q) + 1) (length table / (stages n + 2)) (omega (arith, rw es at (I .fits), ev, ap (leastRounded n) ek));
         exponent-is = ek;
+        grain-is = I .grain-is;
         value-is = ev;
         x = I .chosen;
         chosen-here = o;
@@ -105,12 +107,11 @@ module _ {n : Net} (A : Accepted n) where
       }
 
   -- the floor g × V(k) keeps both bounds, and is small
-  pub floor-is : {p q entries k v : ℕ} {plan planAfter : List ℕ} (S : Served p q entries k v plan planAfter) → IsFloor n p q (cost n (S .x)) (v * 2 ^ k)
-  floor-is {p} {q} {k = k} {v = v} S =
-      let F = chosen-floor A p q (S .x) (S .chosen-here) in
-      let e : 2 ^ grainExponent n p q * leastRounded n (grainExponent n p q) ≡ v * 2 ^ k =
-      ap (λ (i : ℕ). 2 ^ i * leastRounded n i) (sym (S .exponent-is)) ∙ (ap (λ (i : ℕ). 2 ^ k * i) (sym (S .value-is)) ∙ mul-comm (2 ^ k) v) in
-      rw (← e) F
+  pub floor-is : {p q entries k g v : ℕ} {plan planAfter : List ℕ} (S : Served p q entries k g v plan planAfter) → IsFloor n p q (cost n (S .x)) (g * v)
+  floor-is {p} {q} {k = k} {g = g} {v = v} S =
+      let e : 2 ^ grainExponent n p q * leastRounded n (grainExponent n p q) ≡ g * v =
+      ap (λ (i : ℕ). 2 ^ i * leastRounded n i) (sym (S .exponent-is)) ∙ (ap (λ (i : ℕ). i * leastRounded n k) (sym (S .grain-is)) ∙ ap (λ (i : ℕ). g * i) (sym (S .value-is))) in
+      rw e at (chosen-floor A p q (S .x) (S .chosen-here))
 
-  pub floor-low : {p q entries k v : ℕ} {plan planAfter : List ℕ} (S : Served p q entries k v plan planAfter) → v * 2 ^ k < 2 ^ maxExponent
-  floor-low {k = k} {v = v} S = omega (arith, grain-small A k, ap (λ (i : ℕ). 2 ^ k * i) (S .value-is), mul-comm (2 ^ k) v)
+  pub floor-low : {p q entries k g v : ℕ} {plan planAfter : List ℕ} → Served p q entries k g v plan planAfter → g * v < 2 ^ maxExponent
+  floor-low {k = k} {g = g} {v = v} S = rw (S .grain-is, S .value-is) (grain-small A k)

@@ -1,0 +1,150 @@
+-- What planning a net is given and gives: the answer of 01, the buffer and the table it leaves, and the floor.
+use mathlib.Core.Path.{_≡_, refl, ap, sym, _∙_, subst}
+use mathlib.Core.Bool.{Bool, true, false, _&&_}
+use mathlib.Core.List.{List, _++_}
+use Prim.Native.Nat.{ℕ, _*_, _≤_, _<_}
+use native.Mathlib.Omega.{arith}
+use lib.Dec.{leb, ltb, eqb}
+use lib.ListN.{length, take, drop, replicate}
+use lib.IntN.{ℤ, pos}
+use borrow.Author.Tests.{le-leb}
+use mir.Syntax.{w64}
+use mir.Val.{toZ, ofZ}
+use mir.Facts.{toZ-ofZ}
+use Rattle.laws.specs.Booleans.{and-right}
+use Rattle.laws.specs.Basic.{if_then_else_, within}
+use Rattle.rules.specs.declared.Planned.{Planned}
+use Rattle.rules.specs.declared.Judged.{Judged}
+use Rattle.rules.specs.Tree.{Net, stages, isPlan, areLayers}
+use Rattle.rules.specs.Timing.{cost, slack}
+use Rattle.rules.specs.Grain.{meetingPlans, grainExponent, columns, columnsNeeded}
+use Rattle.rules.specs.Reading.{Answer, accept, refuse, _>>=_, _>>_, _unless_, read}
+use Rattle.rules.specs.Planning.{maxShare, Choice, taken, planned, PlanAnswer, cleared, plan, planAnswer, IsFloor, FloorPromise}
+use Rattle.facts.specs.Answers.{accept-injective}
+use Rattle.facts.specs.Fits.{slack-fits, fits-signed}
+use Rattle.tree.specs.Held.{Held, Kept, netOf, held-accepted}
+use Rattle.demands.specs.StageNumbers.{treeOf}
+use Rattle.demands.specs.Call.{all-pass, plan-accepted}
+use Rattle.timing.specs.Tables.{Fitting, fitting}
+use Rattle.costs.specs.Priced.{Priced}
+use Rattle.readoff.specs.Laid.{Laid}
+use Rattle.search.specs.Problem.{Problem}
+use Rattle.search.specs.Planned.{IsLate, IsShort, IsFound}
+use Rattle.planning.specs.Outcomes.{problem-of, late, short, served, Served, TooShort, floor-is}
+
+-- a share in its range (refusal 9)
+pub record Share (p q : ℕ) : Type 0 where
+  pub most : p ≤ maxShare
+  pub some-part : 1 ≤ q
+  pub parts : q ≤ maxShare
+
+-- what is known past refusals 1 to 10: the bytes hold a net, the share is in its range, the plan buffer has room
+pub record Admitted (bs heads : List ℕ) (nodes layers s p q room : ℕ) : Type 0 where
+  pub kept : Kept bs heads nodes s layers
+  pub share : Share p q
+  pub room-enough : s ≤ room
+
+-- the search's problem, from what the numbers of the net give
+pub problem-in : {bs heads : List ℕ} {nodes layers s p q room : ℕ} → Admitted bs heads nodes layers s p q room → {driver wire : List ℕ} {limit : List ℤ} {costs : List ℕ}
+    → ((cost : List ℕ) → Priced (netOf bs) cost → Laid (treeOf (netOf bs)) driver wire limit cost) → Priced (netOf bs) costs → {a : ℤ} → a ≡ netOf bs .driver .arrival
+    → Problem (treeOf (netOf bs)) driver wire limit costs s layers a p q
+problem-in G laid priced e =
+    problem-of (held-accepted (G .kept .held)) (laid _ priced) (G .kept .stages-are) (G .kept .held .layers-are) e (G .share .most) (G .share .some-part) (G .share .parts)
+
+-- a refusal: the number and zeros
+abbrev pub refusedWith : ℕ → Planned
+refusedWith r = record { refusal = r; cost = 0; slack = pos 0; k = 0; floor = 0 }
+
+-- the answer with what it leaves is that of 01, and its floor keeps the floor's promise
+pub record PlansNet (bs : List ℕ) (p q : ℕ) (table tableAfter : List ℤ) (buffer bufferAfter : List ℕ) (r : Planned) : Type 0 where
+  pub same : planAnswer r bufferAfter tableAfter ≡ plan bs p q table buffer
+  pub floor-kept : FloorPromise bs p q r
+
+share-passes : {p q : ℕ} → Share p q → leb p maxShare && within 1 maxShare q ≡ true
+share-passes {p} {q} S = rw (le-leb p 1000 (S .most), le-leb 1 q (S .some-part), le-leb q 1000 (S .parts)) refl
+
+pub refused-floor : (bs : List ℕ) (p q r : ℕ) → 1 ≤ r → FloorPromise bs p q (refusedWith r)
+refused-floor bs p q r h = record { bounded = λ n e z. absurd (omega arith); zero-refused = λ z. refl }
+
+module _ (bs : List ℕ) (p q : ℕ) (table : List ℤ) (buffer : List ℕ) where
+  -- a refusal other than 12 leaves buffer and table as they were
+  pub plan-refused : {r : ℕ} → planned bs p q (length table) (length buffer) ≡ refuse r → eqb r 12 ≡ false
+      → planAnswer (refusedWith r) buffer table ≡ plan bs p q table buffer
+  unfolding plan
+  plan-refused e d = rw (e, plan, d) refl
+
+  plan-short : planned bs p q (length table) (length buffer) ≡ refuse 12 → planAnswer (refusedWith 12) buffer (cleared table) ≡ plan bs p q table buffer
+  unfolding plan
+  plan-short e = rw (e, plan) refl
+
+  plan-done : {c : Choice} {k : ℕ} {after : List ℤ} {bufferAfter : List ℕ} → planned bs p q (length table) (length buffer) ≡ accept c → k ≡ c .k
+      → after ≡ replicate (length table) (pos 0) → bufferAfter ≡ c .plan ++ drop (length (c .plan)) buffer → (floor : ℕ)
+      → planAnswer (record { refusal = 0; cost = cost (c .net) (c .plan); slack = slack (c .net) (c .plan); k = k; floor = floor }) bufferAfter after
+      ≡ plan bs p q table buffer
+  unfolding cleared
+  plan-done e ek et eb floor = rw (ek, et, eb) (sym (plan-accepted bs p q table buffer e))
+
+  module _ {heads : List ℕ} {nodes layers s : ℕ} (G : Admitted bs heads nodes layers s p q (length buffer)) where
+    abbrev n : Net
+    n = netOf bs
+
+    room-passes : leb (stages n) (length buffer) ≡ true
+    room-passes = le-leb (stages n) (length buffer) (omega (arith, G .room-enough, G .kept .stages-are))
+
+    planned-11 : ltb 0 (length (meetingPlans n)) ≡ false → planned bs p q (length table) (length buffer) ≡ refuse 11
+    unfolding planned
+    planned-11 t11 = simp (G .kept .held .holds, share-passes (G .share), room-passes, t11)
+
+    planned-12 : TooShort {n = n} (held-accepted (G .kept .held)) p q (length table) → planned bs p q (length table) (length buffer) ≡ refuse 12
+    unfolding planned
+    planned-12 S = simp (G .kept .held .holds, share-passes (G .share), room-passes, S .some-meets, S .few)
+
+    -- the answers, by the outcome of the search
+    pub late-answer : {after : List ℤ} {bufferAfter : List ℕ} → IsLate (treeOf n) p q s table after buffer bufferAfter
+        → PlansNet bs p q table after buffer bufferAfter (refusedWith 11)
+    late-answer I = record {
+      same = rw (I .table-kept, I .plan-kept) (plan-refused (planned-11 (late (held-accepted (G .kept .held)) I)) refl);
+      floor-kept = refused-floor bs p q 11 (omega arith);
+    }
+
+    pub short-answer : {after : List ℤ} {bufferAfter : List ℕ} → IsShort (treeOf n) p q s table after buffer bufferAfter
+        → PlansNet bs p q table after buffer bufferAfter (refusedWith 12)
+    unfolding cleared
+    short-answer I = record {
+      same = rw (I .cleared, I .plan-kept) (plan-short (planned-12 (short (held-accepted (G .kept .held)) (G .kept .stages-are) I)));
+      floor-kept = refused-floor bs p q 12 (omega arith);
+    }
+
+    module _ {k g v : ℕ} {after : List ℤ} {bufferAfter : List ℕ} (I : IsFound (treeOf n) p q s table after buffer bufferAfter k g v) where
+      pub found : Served (held-accepted (G .kept .held)) p q (length table) k g v buffer bufferAfter
+      found = served (held-accepted (G .kept .held)) (G .kept .stages-are) I
+
+      pub plan-here : take s bufferAfter ≡ found .x
+      plan-here = ap (λ (i : ℕ). take i bufferAfter) (G .kept .stages-are) ∙ found .taken-is
+
+      pub found-answer : PlansNet bs p q table after buffer bufferAfter (record { refusal = 0; cost = cost n (found .x); slack = slack n (found .x); k = k; floor = g * v })
+      found-answer = record {
+        same =
+            let a = all-pass bs p q (length table) (length buffer) (G .kept .held .holds) (share-passes (G .share)) room-passes (found .some-meets) (found .enough) (found .chosen-here) in
+            plan-done a (found .exponent-is) (I .cleared) (found .after-is) (g * v);
+        floor-kept = record {
+          bounded = λ m e z. subst (λ (y : Net). IsFloor y p q (cost n (found .x)) (g * v)) (accept-injective (sym (G .kept .held .holds) ∙ e)) (floor-is (held-accepted (G .kept .held)) found);
+          zero-refused = λ z. absurd (z refl);
+        };
+      }
+
+      -- what the plan buffer then opens with is a plan of the net
+      pub plan-fits : Fitting n (take s bufferAfter)
+      unfolding isPlan
+      plan-fits = rw plan-here (fitting (found .x) (found .sized) (and-right (eqb (length (found .x)) (stages n)) (areLayers n (found .x)) (found .is-plan)))
+
+      -- the answer with the cost and slack that judging gives
+      pub found-judged : {c : ℕ} {t : ℤ} → c ≡ cost n (take s bufferAfter) → t ≡ slack n (take s bufferAfter)
+          → PlansNet bs p q table after buffer bufferAfter (record { refusal = 0; cost = c; slack = t; k = k; floor = g * v })
+      found-judged ec et = rw (ec ∙ ap (cost n) plan-here, et ∙ ap (slack n) plan-here) found-answer
+
+      pub slack-told : {j : Judged} → j ≡ record { refusal = 0; cost = cost n (take s bufferAfter); slack = slack n (take s bufferAfter) }
+          → toZ w64 (ofZ w64 (j .slack)) ≡ slack n (take s bufferAfter)
+      slack-told e =
+          ap (λ (j : Judged). toZ w64 (ofZ w64 (j .slack))) e ∙
+          toZ-ofZ (fits-signed (slack n (take s bufferAfter)) (slack-fits (held-accepted (G .kept .held)) (take s bufferAfter)))
