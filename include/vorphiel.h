@@ -1,7 +1,8 @@
 /* The Vorphiel layer planner, for hosts in C and other languages.
  *
  * Every call answers for every input: there is nothing that the caller must see to beforehand, but that each pointer is valid for the length given with it
- * and that lent buffers do not overlap. A call returns a refusal number, 0 if it accepts; on a refusal every result is 0 and no lent buffer is changed.
+ * and that lent buffers do not overlap. A call returns a refusal number, 0 if it accepts. On a refusal every result is 0 and no lent buffer is changed, with
+ * one exception: after 12 the table of vorphiel_plan is all zero.
  * The numbers are those of the scope document:
  *   1  fewer than three bytes are left where a field is due, or the payload is not all there
  *   2  a tag that is not allowed there, or a length that its kind does not have
@@ -11,6 +12,10 @@
  *   6  a childless node that is no sink
  *   7  the plan's length is not the number of stages
  *   8  a layer number that is not below the layer count
+ *   9  p above 1,000, or q outside 1 to 1,000
+ *  10  the plan buffer is shorter than the number of stages
+ *  11  no plan of the net meets timing
+ *  12  the table has too few columns
  */
 #ifndef VORPHIEL_H
 #define VORPHIEL_H
@@ -28,6 +33,30 @@ uint8_t vorphiel_check(const uint8_t *net, size_t net_len, uint64_t *nodes, uint
 /* Judges a plan, one layer number a stage. Accepted: the plan's exact cost, and its exact slack in ticks, which may be negative.
  * Refused with 1 to 6 for the net, then 7, then 8. */
 uint8_t vorphiel_judge(const uint8_t *net, size_t net_len, const uint8_t *plan, size_t plan_len, uint64_t *cost, int64_t *slack);
+
+/* Plans a net of s stages with share p/q: finds a plan that meets timing and costs at most (1 + p/q) times as much as the cheapest that does. A share of 0
+ * (p = 0) gives the cheapest plan.
+ *
+ * Accepted:
+ *   plan    its first s bytes are the plan, one layer number a stage; later bytes keep their values
+ *   cost    the plan's cost, and
+ *   slack   its slack in ticks, 0 or more: both as vorphiel_judge gives them
+ *   k       the exponent of the grain 2^k
+ *   floor   at most the cost of every plan of the net that meets timing; and q * cost <= (q + p) * floor
+ *   table   all zero, every entry
+ * So q * cost <= (q + p) * (the cost of every plan of the net that meets timing). Among the plans that meet timing with the least cost rounded to the grain,
+ * the plan is the first in the order of stage 0's layer, then stage 1's, and so on.
+ *
+ * Refused with 1 to 6 for the net, then 9, 10, 11, 12. The plan buffer is unchanged after every refusal. The table is unchanged after 1 to 11 and all zero
+ * after 12.
+ *
+ * The table is room to work in. Its columns are table_len / (s + 2), rounded down; 12 is given just where they are fewer than the search needs at the grain.
+ * With p at least 1, a table of (s + ceil(2qs / p)) * (s + 2) entries is never too short. vorphiel_check gives s, which is 64 at most.
+ *
+ * The caller need not see to what table and plan buffer hold beforehand, to their lengths, to the ranges of p and q, to p/q being in lowest terms, or to
+ * whether the net can be read or any plan of it meets timing: each of these is answered by a result or by a number above. */
+uint8_t vorphiel_plan(const uint8_t *net, size_t net_len, uint64_t p, uint64_t q, int64_t *table, size_t table_len,
+                      uint8_t *plan, size_t plan_len, uint64_t *cost, int64_t *slack, uint64_t *k, uint64_t *floor);
 
 #ifdef __cplusplus
 }

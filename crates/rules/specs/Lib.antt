@@ -5,4 +5,5 @@ pub mod Grain
 pub mod Reading
 pub mod Judging
 pub mod Planning
+pub mod Program
 pub mod Examples

@@ -1,2 +1,3 @@
 pub mod Checking
 pub mod Judging
+pub mod Planning

@@ -1,13 +1,22 @@
 // The open calls of the layer planner. Each answers for every input; each contract is one equation with the rules of document 01.
+use fields::within;
+use planning::plan_net;
+use planning::refused;
 use reader::Net;
 use reader::read;
 use rules::Checked;
 use rules::Judged;
+use rules::Planned;
 use timing::are_layers;
 use timing::judged;
 ghost use mathlib.Core.Path.{_≡_};
+ghost use mathlib.Core.Bool.{_&&_};
+ghost use lib.Dec.{leb};
+ghost use Rattle.laws.specs.Basic.{within};
 ghost use Rattle.rules.specs.Reading.{check};
 ghost use Rattle.rules.specs.Judging.{judge};
+ghost use Rattle.rules.specs.Planning.{maxShare, planAnswer, plan, FloorPromise, Demand3};
+ghost use Rattle.planning.specs.Calls.{PlansNet};
 ghost use Rattle.vorphiel.specs.Answers.{netRefusal};
 
 // Checking (01, Reading): the counts of nodes, stages and layers of the net that the bytes hold, or the number of the first fault and zeros.
@@ -119,5 +128,85 @@ pub extern "C" fn vorphiel_judge(net: &[u8], plan: &[u8], cost: &mut u64, slack:
     *cost = answer.cost;
     let ticks = answer.slack;
     *slack = ticks;
+    answer.refusal
+}
+
+const MAX_SHARE: u64 = 1_000;
+
+// Whether a share p/q is in its range (refusal 9).
+fn share_in_range(p: u64, q: u64) -> bool
+    ensures { λ r. ⌜ r ≡ leb p maxShare && within 1 maxShare q ⌝ }
+{
+    if MAX_SHARE < p {
+        return false;
+    }
+    within(q, 1, MAX_SHARE)
+}
+
+// Planning, by the refusals in their order: 1 to 6 of the net, 9, 10, and what the search gives.
+fn planned(net: &[u8], p: u64, q: u64, table: &mut [i64], buffer: &mut [u8]) -> Planned
+    ensures { λ r. ⌜ PlansNet (now (net .entry)) p q (now (table .entry)) (now (table .exit)) (now (buffer .entry)) (now (buffer .exit)) r ⌝ }
+{
+    let mut heads = [0usize; 256];
+    let found = read(net, &mut heads);
+    let Net::Read {
+        nodes,
+        stages,
+        layers,
+    } = found
+    else {
+        return refused(net_refusal(found));
+    };
+    if !share_in_range(p, q) {
+        return refused(9);
+    }
+    if buffer.len() < stages {
+        return refused(10);
+    }
+    plan_net(net, &heads, layers, nodes, stages, p, q, table, buffer)
+}
+
+// Planning (01, Planning) with share p/q: the plan chosen into the first bytes of `buffer`, its cost and slack, k of the grain and a floor; or a refusal number
+// and zeros. The clauses: the answer and what it leaves are those of the definition; the floor's two bounds; demand 3, whole.
+pub fn plan(net: &[u8], p: u64, q: u64, table: &mut [i64], buffer: &mut [u8]) -> Planned
+    ensures { λ r. ⌜ planAnswer r (now (buffer .exit)) (now (table .exit)) ≡ plan (now (net .entry)) p q (now (table .entry)) (now (buffer .entry)) ⌝ }
+    ensures { λ r. ⌜ FloorPromise (now (net .entry)) p q r ⌝ }
+    ensures { λ r. ⌜ Demand3 (now (net .entry)) p q (now (table .entry)) (now (buffer .entry)) (now (buffer .exit)) r ⌝ }
+{
+    planned(net, p, q, table, buffer)
+}
+
+// Planning for hosts in other languages: the result is the refusal number, the four numbers are left where the host says.
+#[no_mangle]
+pub extern "C" fn vorphiel_plan(
+    net: &[u8],
+    p: u64,
+    q: u64,
+    table: &mut [i64],
+    buffer: &mut [u8],
+    cost: &mut u64,
+    slack: &mut i64,
+    k: &mut u64,
+    floor: &mut u64,
+) -> u8
+    ensures { λ r. ⌜
+        planAnswer (record { refusal = r; cost = now (cost .exit); slack = now (slack .exit); k = now (k .exit); floor = now (floor .exit) })
+        (now (buffer .exit)) (now (table .exit)) ≡ plan (now (net .entry)) p q (now (table .entry)) (now (buffer .entry))
+        ⌝ }
+    ensures { λ r. ⌜
+        FloorPromise (now (net .entry)) p q
+        (record { refusal = r; cost = now (cost .exit); slack = now (slack .exit); k = now (k .exit); floor = now (floor .exit) })
+        ⌝ }
+    ensures { λ r. ⌜
+        Demand3 (now (net .entry)) p q (now (table .entry)) (now (buffer .entry)) (now (buffer .exit))
+        (record { refusal = r; cost = now (cost .exit); slack = now (slack .exit); k = now (k .exit); floor = now (floor .exit) })
+        ⌝ }
+{
+    let answer = plan(net, p, q, table, buffer);
+    *cost = answer.cost;
+    let ticks = answer.slack;
+    *slack = ticks;
+    *k = answer.k;
+    *floor = answer.floor;
     answer.refusal
 }

@@ -1,0 +1,68 @@
+-- What planning answers, by the refusals in their order, from what the reader gave.
+use mathlib.Core.Path.{_≡_, refl, ap, sym, _∙_}
+use mathlib.Core.Bool.{Bool, true, false, _&&_}
+use mathlib.Core.List.{List}
+use Prim.Native.Nat.{ℕ, _≤_, _<_}
+use native.Mathlib.Omega.{arith}
+use lib.Dec.{leb, eqb}
+use lib.ListN.{length}
+use lib.IntN.{ℤ}
+use borrow.Author.Tests.{leb-true, lt-leb, ne-eqb}
+use Rattle.laws.specs.Basic.{within}
+use Rattle.laws.specs.Booleans.{and-left, and-right}
+use Rattle.rules.specs.Tree.{stages}
+use Rattle.rules.specs.Reading.{Answer, accept, refuse, _>>=_, _>>_, _unless_, read}
+use Rattle.rules.specs.Planning.{maxShare, planned}
+use Rattle.facts.specs.Answers.{turned-refused}
+use Rattle.facts.specs.Refusals.{Numbered, read-numbered}
+use Rattle.reader.specs.Net.{countsOf, counts, NetRead}
+use Rattle.reader.specs.declared.Net.the-variants as net
+use Rattle.tree.specs.Held.{Held, Kept, netOf}
+use Rattle.planning.specs.Calls.{Share, Admitted, refusedWith, PlansNet, refused-floor, plan-refused}
+
+pub share-of : {p q : ℕ} → leb p maxShare && within 1 maxShare q ≡ true → Share p q
+share-of {p} {q} e =
+    let w = and-right (leb p maxShare) (within 1 maxShare q) e in
+    record {
+      most = leb-true p maxShare (and-left (leb p maxShare) (within 1 maxShare q) e);
+      some-part = leb-true 1 q (and-left (leb 1 q) (leb q maxShare) w);
+      parts = leb-true q maxShare (and-right (leb 1 q) (leb q maxShare) w);
+    }
+
+module _ (bs : List ℕ) (p q : ℕ) (table : List ℤ) (buffer : List ℕ) where
+  -- a refusal before the search
+  early : {r : ℕ} → planned bs p q (length table) (length buffer) ≡ refuse r → 1 ≤ r → r < 12 → PlansNet bs p q table table buffer buffer (refusedWith r)
+  early {r} e some low = record {
+    same = plan-refused bs p q table buffer e (ne-eqb r 12 (λ d. omega arith));
+    floor-kept = refused-floor bs p q r some;
+  }
+
+  unread : {r : ℕ} → read bs ≡ refuse r → planned bs p q (length table) (length buffer) ≡ refuse r
+  unfolding planned
+  unread e = rw (e, planned) refl
+
+  pub plan-unread : {r : ℕ} {heads : List ℕ} → NetRead bs (net.Refused r) heads → PlansNet bs p q table table buffer buffer (refusedWith r)
+  unfolding counts
+  plan-unread {r} R =
+      let e = turned-refused (read bs) countsOf (R .answer) in
+      let low = read-numbered bs .low r e in
+      early (unread e) (read-numbered bs .some r e) (omega arith)
+
+  module _ {heads : List ℕ} {nodes layers s : ℕ} (K : Kept bs heads nodes s layers) where
+    at-9 : leb p maxShare && within 1 maxShare q ≡ false → planned bs p q (length table) (length buffer) ≡ refuse 9
+    unfolding planned
+    at-9 t9 = simp (K .held .holds, t9)
+
+    pub plan-9 : leb p maxShare && within 1 maxShare q ≡ false → PlansNet bs p q table table buffer buffer (refusedWith 9)
+    plan-9 t9 = early (at-9 t9) (omega arith) (omega arith)
+
+    module _ (t9 : leb p maxShare && within 1 maxShare q ≡ true) where
+      at-10 : leb (stages (netOf bs)) (length buffer) ≡ false → planned bs p q (length table) (length buffer) ≡ refuse 10
+      unfolding planned
+      at-10 t10 = simp (K .held .holds, t9, t10)
+
+      pub plan-10 : length buffer < s → PlansNet bs p q table table buffer buffer (refusedWith 10)
+      plan-10 h = early (at-10 (lt-leb (stages (netOf bs)) (length buffer) (omega (arith, K .stages-are)))) (omega arith) (omega arith)
+
+      pub admitted : s ≤ length buffer → Admitted bs heads nodes layers s p q (length buffer)
+      admitted h = record { kept = K; share = share-of t9; room-enough = h }
