@@ -9,14 +9,14 @@ use lib.Dec.{leb, ltb, eqb}
 use lib.ListN.{length, take, drop}
 use lib.Seq.{take-at}
 use lib.IntN.{ℤ, pos}
-use borrow.Author.Tests.{le-leb}
+use borrow.Author.Tests.{le-leb, leb-false}
 use Rattle.laws.specs.Basic.{within}
 use Rattle.rules.specs.declared.Planned.{Planned}
 use Rattle.rules.specs.Tree.{Net, stages, isPlan}
 use Rattle.rules.specs.Timing.{slack, meets, cost}
 use Rattle.rules.specs.Grain.{meetingPlans, grainExponent, chosen, columns, columnsNeeded}
 use Rattle.rules.specs.Reading.{Answer, accept, refuse, _>>=_, _>>_, _unless_, read}
-use Rattle.rules.specs.Planning.{maxShare, Choice, taken, planned, PlanAnswer, cleared, plan, IsFloor, planAnswer, enoughColumns, Plannable, Demand3}
+use Rattle.rules.specs.Planning.{maxShare, Choice, taken, planned, PlanAnswer, cleared, plan, IsFloor, planAnswer, enoughColumns, Plannable, Demand2, Demand3}
 use Rattle.facts.specs.Answers.{not-refused, accept-injective, refuse-injective, then-accepted, unless-accepted}
 use Rattle.facts.specs.Accepted.{Accepted, accepted}
 use Rattle.facts.specs.Refusals.{Numbered, accept-numbered, refuse-numbered, then-numbered, unless-numbered, wider-numbered, read-numbered}
@@ -73,12 +73,34 @@ module _ (bs : List ℕ) (p q entries room : ℕ) where
   steps true true true true none f t e = let z : _≡_ {A = ℕ} 11 12 = refuse-injective e in omega arith
   steps true true true true (some x) f t e = not-refused (sym e)
 
+  late-steps : (a b c d : Bool) (o : Option (List ℕ)) (f : List ℕ → Choice) → c ≡ true → (x : List ℕ) → o ≡ some x
+      → _>>_ (9 unless a) (_>>_ (10 unless b) (_>>_ (11 unless c) (_>>_ (12 unless d) (taken o >>= λ x. accept (f x))))) ≡ refuse 11 → ⊥
+  late-steps false b c d o f t x i e = let z : _≡_ {A = ℕ} 9 11 = refuse-injective e in omega arith
+  late-steps true false c d o f t x i e = let z : _≡_ {A = ℕ} 10 11 = refuse-injective e in omega arith
+  late-steps true true false d o f t x i e = let z : _≡_ {A = ℕ} 0 1 = cc in omega arith
+  late-steps true true true false o f t x i e = let z : _≡_ {A = ℕ} 12 11 = refuse-injective e in omega arith
+  late-steps true true true true none f t x i e = let z : _≡_ {A = ℕ} 0 1 = cc in omega arith
+  late-steps true true true true (some y) f t x i e = not-refused (sym e)
+
   module _ {n : Net} (h : read bs ≡ accept n) where
     pub not-short : leb (columnsNeeded n (grainExponent n p q)) (columns n entries) ≡ true → planned bs p q entries room ≡ refuse 12 → ⊥
     unfolding planned
     not-short t e =
         steps (leb p maxShare && within 1 maxShare q) (leb (stages n) room) (ltb 0 (length (meetingPlans n))) (leb (columnsNeeded n (grainExponent n p q)) (columns n entries))
         (chosen n (grainExponent n p q)) (λ x. record { net = n; k = grainExponent n p q; plan = x }) t (rw h at e)
+
+    -- 11 is not given where some plan meets timing.
+    pub not-late : ltb 0 (length (meetingPlans n)) ≡ true → planned bs p q entries room ≡ refuse 11 → ⊥
+    unfolding planned
+    not-late t e =
+        let (x, o) = chosen-some n (grainExponent n p q) t in
+        late-steps (leb p maxShare && within 1 maxShare q) (leb (stages n) room) (ltb 0 (length (meetingPlans n))) (leb (columnsNeeded n (grainExponent n p q)) (columns n entries))
+        (chosen n (grainExponent n p q)) (λ x. record { net = n; k = grainExponent n p q; plan = x }) t x o (rw h at e)
+
+    pub all-late : leb p maxShare && within 1 maxShare q ≡ true → leb (stages n) room ≡ true → ltb 0 (length (meetingPlans n)) ≡ false
+        → planned bs p q entries room ≡ refuse 11
+    unfolding planned
+    all-late t9 t10 t11 = simp (h, t9, t10, t11)
 
     pub all-pass : {x : List ℕ} → leb p maxShare && within 1 maxShare q ≡ true → leb (stages n) room ≡ true → ltb 0 (length (meetingPlans n)) ≡ true
         → leb (columnsNeeded n (grainExponent n p q)) (columns n entries) ≡ true → chosen n (grainExponent n p q) ≡ some x
@@ -110,10 +132,10 @@ module _ (bs : List ℕ) (p q : ℕ) (table : List ℤ) (buffer : List ℕ) wher
         go (accept c) e = (c, e)
         go (refuse s) e = absurd (omega (arith, number, refusal-is e, planned-numbered bs p q (length table) (length buffer) .some s e))
 
-    short-refused : r .refusal ≡ 12 → planned bs p q (length table) (length buffer) ≡ refuse 12
-    short-refused z = go (planned bs p q (length table) (length buffer)) refl
+    number-refused : {m : ℕ} → r .refusal ≡ m → 1 ≤ m → planned bs p q (length table) (length buffer) ≡ refuse m
+    number-refused {m} z one = go (planned bs p q (length table) (length buffer)) refl
       where
-        go : (a : Answer Choice) → planned bs p q (length table) (length buffer) ≡ a → planned bs p q (length table) (length buffer) ≡ refuse 12
+        go : (a : Answer Choice) → planned bs p q (length table) (length buffer) ≡ a → planned bs p q (length table) (length buffer) ≡ refuse m
         go (accept c) e = absurd (omega (arith, number, ap (λ (a : PlanAnswer). a .refusal) (plan-accepted e)))
         go (refuse s) e = e ∙ ap refuse (sym (refusal-is e) ∙ sym number ∙ z)
 
@@ -122,10 +144,24 @@ module _ (bs : List ℕ) (p q : ℕ) (table : List ℤ) (buffer : List ℕ) wher
     unfolding enoughColumns
     enough {n} h one e = columns-enough (accepted bs n h) p q one (length table) e
 
+    -- the plan that an accepted answer leaves at the front of the buffer
+    plan-taken : (n : Net) → read bs ≡ accept n → (c : Choice) → planned bs p q (length table) (length buffer) ≡ accept c
+        → (chosen n (grainExponent n p q) ≡ some (c .plan)) × (take (stages n) after ≡ c .plan)
+    plan-taken n h c e =
+        let S = settled bs p q (length table) (length buffer) e in
+        let w : c .net ≡ n = accept-injective (sym (S .holds) ∙ h) in
+        let o : chosen n (grainExponent n p q) ≡ some (c .plan) = subst (λ (m : Net). chosen m (grainExponent m p q) ≡ some (c .plan)) w (S .chosen-here) in
+        let b : after ≡ c .plan ++ drop (length (c .plan)) buffer = ap (λ (a : PlanAnswer). a .buffer) (same ∙ plan-accepted e) in
+        let l : stages n ≡ length (c .plan) = sym (plan-length n (c .plan) (chosen-is n (grainExponent n p q) (c .plan) o .is-plan)) in
+        (o, ap (λ (k : ℕ). take k after) l ∙ ap (take (length (c .plan))) b ∙ take-at (c .plan) (drop (length (c .plan)) buffer) (length (c .plan)) refl)
+
+    share-in : p ≤ maxShare → 1 ≤ q → q ≤ maxShare → leb p maxShare && within 1 maxShare q ≡ true
+    share-in p-in q-some q-in = rw (le-leb p 1000 p-in, le-leb 1 q q-some, le-leb q 1000 q-in) refl
+
     pub demand-3 : Demand3 bs p q table buffer after r
     demand-3 = record {
       near = λ n h z. nearness n h (accepted-choice z);
-      never-short = λ n h one e z. not-short bs p q (length table) (length buffer) h (enough h one e) (short-refused z);
+      never-short = λ n h one e z. not-short bs p q (length table) (length buffer) h (enough h one e) (number-refused z (omega arith));
       planned = λ n h one p-in q-some q-in room e some-plan. served n h one p-in q-some q-in room e (some-plan-iff n .1 some-plan);
     }
       where
@@ -133,13 +169,10 @@ module _ (bs : List ℕ) (p q : ℕ) (table : List ℤ) (buffer : List ℕ) wher
             → (isPlan n (take (stages n) after) ≡ true) × (meets n (take (stages n) after) ≡ true) × (cost n (take (stages n) after) ≡ r .cost)
             × ((y : List ℕ) → isPlan n y ≡ true → meets n y ≡ true → q * cost n (take (stages n) after) ≤ (q + p) * cost n y)
         nearness n h (c, e) =
+            let (o, t) = plan-taken n h c e in
+            let C = chosen-is n (grainExponent n p q) (c .plan) o in
             let S = settled bs p q (length table) (length buffer) e in
             let w : c .net ≡ n = accept-injective (sym (S .holds) ∙ h) in
-            let o : chosen n (grainExponent n p q) ≡ some (c .plan) = subst (λ (m : Net). chosen m (grainExponent m p q) ≡ some (c .plan)) w (S .chosen-here) in
-            let C = chosen-is n (grainExponent n p q) (c .plan) o in
-            let b : after ≡ c .plan ++ drop (length (c .plan)) buffer = ap (λ (a : PlanAnswer). a .buffer) (same ∙ plan-accepted e) in
-            let l : stages n ≡ length (c .plan) = sym (plan-length n (c .plan) (C .is-plan)) in
-            let t : take (stages n) after ≡ c .plan = ap (λ (k : ℕ). take k after) l ∙ ap (take (length (c .plan))) b ∙ take-at (c .plan) (drop (length (c .plan)) buffer) (length (c .plan)) refl in
             let k : cost (c .net) (c .plan) ≡ cost n (c .plan) = ap (λ (m : Net). cost m (c .plan)) w in
             rw t (C .is-plan, C .meets-timing, sym k ∙ sym (ap (λ (a : PlanAnswer). a .cost) (same ∙ plan-accepted e)), near-cheapest (accepted bs n h) p q (c .plan) o)
 
@@ -147,6 +180,34 @@ module _ (bs : List ℕ) (p q : ℕ) (table : List ℤ) (buffer : List ℕ) wher
             → ltb 0 (length (meetingPlans n)) ≡ true → r .refusal ≡ 0
         served n h one p-in q-some q-in room e t11 =
             let (x, o) = chosen-some n (grainExponent n p q) t11 in
-            let t9 : leb p maxShare && within 1 maxShare q ≡ true = rw (le-leb p 1000 p-in, le-leb 1 q q-some, le-leb q 1000 q-in) refl in
+            let t9 = share-in p-in q-some q-in in
             let a = all-pass bs p q (length table) (length buffer) h t9 (le-leb (stages n) (length buffer) room) t11 (enough h one e) o in
             number ∙ ap (λ (a : PlanAnswer). a .refusal) (plan-accepted a)
+
+    -- Demand 2 for every answer that equals the definition.
+    pub demand-2 : Demand2 bs p q table buffer after r
+    demand-2 = record {
+      late-only = λ n h z some-plan. not-late bs p q (length table) (length buffer) h (some-plan-iff n .1 some-plan) (number-refused z (omega arith));
+      late = λ n h p-in q-some q-in room none-meets. number ∙ refusal-is (all-late bs p q (length table) (length buffer) h (share-in p-in q-some q-in) (le-leb (stages n) (length buffer) room) (none-late n none-meets));
+      short-only = λ n h z. too-few n h (number-refused z (omega arith));
+      first = λ n h z. first-plan n h (accepted-choice z);
+    }
+      where
+        none-late : (n : Net) → (Plannable n → ⊥) → ltb 0 (length (meetingPlans n)) ≡ false
+        none-late n none-meets = go (ltb 0 (length (meetingPlans n))) refl
+          where
+            go : (b : Bool) → ltb 0 (length (meetingPlans n)) ≡ b → ltb 0 (length (meetingPlans n)) ≡ false
+            go true e = absurd (none-meets (some-plan-iff n .0 e))
+            go false e = e
+
+        too-few : (n : Net) → read bs ≡ accept n → planned bs p q (length table) (length buffer) ≡ refuse 12
+            → columns n (length table) < columnsNeeded n (grainExponent n p q)
+        too-few n h e = go (leb (columnsNeeded n (grainExponent n p q)) (columns n (length table))) refl
+          where
+            go : (b : Bool) → leb (columnsNeeded n (grainExponent n p q)) (columns n (length table)) ≡ b → columns n (length table) < columnsNeeded n (grainExponent n p q)
+            go true t = absurd (not-short bs p q (length table) (length buffer) h t e)
+            go false t = leb-false (columnsNeeded n (grainExponent n p q)) (columns n (length table)) t
+
+        first-plan : (n : Net) → read bs ≡ accept n → (c : Choice) × (planned bs p q (length table) (length buffer) ≡ accept c)
+            → chosen n (grainExponent n p q) ≡ some (take (stages n) after)
+        first-plan n h (c, e) = let (o, t) = plan-taken n h c e in o ∙ ap some (sym t)

@@ -3,7 +3,7 @@ use mathlib.Core.Path.{_≡_}
 use mathlib.Core.Bool.{Bool, true, _&&_}
 use mathlib.Core.Option.{Option, none, some}
 use mathlib.Core.List.{List, _++_}
-use Prim.Native.Nat.{ℕ, _+_, _*_, _/_, _-_, _≤_}
+use Prim.Native.Nat.{ℕ, _+_, _*_, _/_, _-_, _≤_, _<_}
 use lib.Dec.{leb, ltb, eqb}
 use lib.ListN.{length, take, drop, replicate}
 use lib.IntN.{ℤ, pos}
@@ -91,6 +91,15 @@ enoughColumns p q s = s + (2 * q * s + (p - 1)) / p
 -- Some plan of the net meets timing.
 abbrev pub Plannable : Net → Type 0
 Plannable n = (x : List ℕ) × (isPlan n x ≡ true) × (meets n x ≡ true)
+
+-- Demand 2 for planning: 11 exactly if no plan meets timing, 12 only if the columns are too few, else the first plan of least rounded cost at the grain.
+pub record Demand2 (bs : List ℕ) (p q : ℕ) (table : List ℤ) (buffer after : List ℕ) (r : Planned) : Type 0 where
+  -- 11 only if no plan of the net meets timing; and, with the share in its range and the plan buffer in order, if none does.
+  pub late-only : (n : Net) → read bs ≡ accept n → r .refusal ≡ 11 → Plannable n → ⊥
+  pub late : (n : Net) → read bs ≡ accept n → p ≤ maxShare → 1 ≤ q → q ≤ maxShare → stages n ≤ length buffer → (Plannable n → ⊥) → r .refusal ≡ 11
+  pub short-only : (n : Net) → read bs ≡ accept n → r .refusal ≡ 12 → columns n (length table) < columnsNeeded n (grainExponent n p q)
+  -- If planning accepts, the buffer opens with the plan laid down.
+  pub first : (n : Net) → read bs ≡ accept n → r .refusal ≡ 0 → chosen n (grainExponent n p q) ≡ some (take (stages n) after)
 
 -- Demand 3, whole: whatever net bytes, share, table and plan buffer are handed in. `after` is the plan buffer afterwards.
 pub record Demand3 (bs : List ℕ) (p q : ℕ) (table : List ℤ) (buffer after : List ℕ) (r : Planned) : Type 0 where

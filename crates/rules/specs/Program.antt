@@ -2,12 +2,15 @@
 use mathlib.Core.Path.{_≡_, refl}
 use mathlib.Core.Bool.{true, false}
 use mathlib.Core.List.{List, [], _∷_, _++_}
-use Prim.Native.Nat.{ℕ, zero, suc, _+_, _/_, _%_}
+use Prim.Native.Nat.{ℕ, zero, suc, _+_, _/_, _%_, _^_}
 use Prim.Native.Char.{code}
 use Prim.Native.String.{String}
 use Prim.Native.String as text
 use lib.Dec.{ltb}
 use lib.IntN.{ℤ, pos, negsuc}
+use Rattle.rules.specs.Timing.{cost, slack}
+use Rattle.rules.specs.Reading.{accept, refuse}
+use Rattle.rules.specs.Planning.{Choice, planned}
 
 -- The bytes of a text in ASCII.
 abbrev pub ascii : String → List ℕ
@@ -75,6 +78,13 @@ planLine cost g slack plan =
 -- The line of a refusal: 'A refusal prints `refused ` and its number, then a line feed'.
 unfoldable pub refusedLine : ℕ → List ℕ
 refusedLine r = numberField refusedWord r ++ lineFeed
+
+-- The line for an input: planning with share 1/4, a table of 8,192 entries and a plan buffer of 64.
+unfoldable pub programLine : List ℕ → List ℕ
+programLine bs = elim (planned bs 1 4 8192 64) [
+  | accept c ↦ planLine (cost (c .net) (c .plan)) (2 ^ c .k) (slack (c .net) (c .plan)) (c .plan)
+  | refuse r ↦ refusedLine r
+]
 
 -- The line that 01 prints for net B, a line with a negative slack and numbers of two digits or more, and a refusal, by computing the definitions.
 pub printed : (planLine 35 4 (pos 0) (0 ∷ 1 ∷ []) ≡ ascii "cost 35 grain 4 slack 0 plan 0 1\n")

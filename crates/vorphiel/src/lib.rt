@@ -15,7 +15,7 @@ ghost use lib.Dec.{leb};
 ghost use Rattle.laws.specs.Basic.{within};
 ghost use Rattle.rules.specs.Reading.{check};
 ghost use Rattle.rules.specs.Judging.{judge};
-ghost use Rattle.rules.specs.Planning.{maxShare, planAnswer, plan, FloorPromise, Demand3};
+ghost use Rattle.rules.specs.Planning.{maxShare, planAnswer, plan, FloorPromise, Demand2, Demand3};
 ghost use Rattle.planning.specs.Calls.{PlansNet};
 ghost use Rattle.vorphiel.specs.Answers.{netRefusal};
 
@@ -167,10 +167,12 @@ fn planned(net: &[u8], p: u64, q: u64, table: &mut [i64], buffer: &mut [u8]) -> 
 }
 
 // Planning (01, Planning) with share p/q: the plan chosen into the first bytes of `buffer`, its cost and slack, k of the grain and a floor; or a refusal number
-// and zeros. The clauses: the answer and what it leaves are those of the definition; the floor's two bounds; demand 3, whole.
+// and zeros. The clauses: the answer and what it leaves are those of the definition; the floor's two bounds; demand 2 for
+// planning; demand 3, whole.
 pub fn plan(net: &[u8], p: u64, q: u64, table: &mut [i64], buffer: &mut [u8]) -> Planned
     ensures { λ r. ⌜ planAnswer r (now (buffer .exit)) (now (table .exit)) ≡ plan (now (net .entry)) p q (now (table .entry)) (now (buffer .entry)) ⌝ }
     ensures { λ r. ⌜ FloorPromise (now (net .entry)) p q r ⌝ }
+    ensures { λ r. ⌜ Demand2 (now (net .entry)) p q (now (table .entry)) (now (buffer .entry)) (now (buffer .exit)) r ⌝ }
     ensures { λ r. ⌜ Demand3 (now (net .entry)) p q (now (table .entry)) (now (buffer .entry)) (now (buffer .exit)) r ⌝ }
 {
     planned(net, p, q, table, buffer)
@@ -195,6 +197,10 @@ pub extern "C" fn vorphiel_plan(
         ⌝ }
     ensures { λ r. ⌜
         FloorPromise (now (net .entry)) p q
+        (record { refusal = r; cost = now (cost .exit); slack = now (slack .exit); k = now (k .exit); floor = now (floor .exit) })
+        ⌝ }
+    ensures { λ r. ⌜
+        Demand2 (now (net .entry)) p q (now (table .entry)) (now (buffer .entry)) (now (buffer .exit))
         (record { refusal = r; cost = now (cost .exit); slack = now (slack .exit); k = now (k .exit); floor = now (floor .exit) })
         ⌝ }
     ensures { λ r. ⌜

@@ -1,6 +1,6 @@
--- `plan` is right: the answer is that of the definition, and demand 3 follows for every answer that is.
+-- `plan` is right: the answer is that of the definition, and demands 2 and 3 follow for every answer that is.
 use borrow.Author.Needs.{needs}
-use Rattle.demands.specs.Call.{demand-3}
+use Rattle.demands.specs.Call.{demand-2, demand-3}
 use Rattle.vorphiel.proofs.plan.Statement.{statement}
 use Rattle.vorphiel.proofs.plan.Tie as tie
 use Rattle.vorphiel.proofs.plan.Reads as reads
@@ -19,7 +19,7 @@ same-length-2 c = search needs
 returns : tie.Need-returns
 returns c = 
     let E = c .before .before .before .planned .ensures in
-    (E .same, (E .floor-kept, demand-3 _ _ _ _ _ _ (E .same)))
+    (E .same, (E .floor-kept, (demand-2 _ _ _ _ _ _ (E .same), demand-3 _ _ _ _ _ _ (E .same))))
 
 pub plan-spec : {M : Type 1} → statement M
 plan-spec = tie.close (tie.spec planned-requires same-length same-length-2 returns)

@@ -1,0 +1,18 @@
+-- The law that the program rests on: it holds no more than the front of its input, and the line is the one for the whole input.
+use mathlib.Core.Path.{_≡_, refl, ap, sym, _∙_}
+use mathlib.Core.List.{List}
+use Prim.Native.Nat.{ℕ, _≤_}
+use lib.ListN.{take}
+use Rattle.rules.specs.Reading.{read}
+use Rattle.rules.specs.Planning.{planned}
+use Rattle.rules.specs.Program.{programLine}
+use Rattle.longest.specs.Longest.{front, read-front}
+
+module _ (M : ℕ) (enough : front ≤ M) (bs : List ℕ) where
+  planned-front : (p q entries room : ℕ) → planned (take M bs) p q entries room ≡ planned bs p q entries room
+  unfolding planned
+  planned-front p q entries room = let e = read-front M enough bs in cc
+
+  pub line-front : programLine (take M bs) ≡ programLine bs
+  unfolding programLine
+  line-front = let e = planned-front 1 4 8192 64 in cc

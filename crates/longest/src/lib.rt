@@ -1,0 +1,1 @@
+// No code: that reading needs only the front of its input stands in specs/.

@@ -1,0 +1,44 @@
+// What the program prints (01, Program): the line for the net that an input holds.
+use line::plan_line;
+use line::refused_line;
+ghost use mathlib.Core.Path.{_≡_};
+ghost use mathlib.Core.List.{_++_};
+ghost use Prim.Native.Nat.{_≤_, _^_};
+ghost use lib.ListN.{length, drop};
+ghost use Rattle.io.specs.Counts.{Counts};
+ghost use Rattle.rules.specs.Grain.{maxExponent};
+ghost use Rattle.rules.specs.Program.{programLine};
+ghost use Rattle.line.specs.Placing.{maxLine};
+
+// 2^k, by doubling: the grain.
+fn grain(k: u64) -> u64
+    requires { ⌜ k ≤ maxExponent ⌝ }
+    ensures { λ r. ⌜ r ≡ 2 ^ k ⌝ }
+{
+    let mut g: u64 = 1;
+    let mut i: u64 = 0;
+    while i < k {
+        g = 2 * g;
+        i += 1;
+    }
+    g
+}
+
+// The line for the net that the bytes hold, with the program's share 1/4, table of 8,192 entries and plan buffer of 64, at the front of `out`.
+pub fn answer_line(net: &[u8], out: &mut [u8]) -> usize
+    requires { ⌜ maxLine ≤ length (now out) ⌝ }
+    ensures { λ r. ⌜ r ≡ length (programLine (now (net .entry))) ⌝ }
+    ensures { λ r. ⌜ now (out .exit) ≡ programLine (now (net .entry)) ++ drop r (now (out .entry)) ⌝ }
+    ensures { λ r. ⌜ Counts r (now (out .exit)) ⌝ }
+{
+    let mut table = [0i64; 8192];
+    let mut plan = [0u8; 64];
+    let answer = vorphiel::plan(net, 1, 4, &mut table, &mut plan);
+    if answer.refusal != 0 {
+        return refused_line(answer.refusal, out);
+    }
+    let counts = vorphiel::check(net);
+    let stages = counts.stages as usize;
+    let g = grain(answer.k);
+    plan_line(answer.cost, g, answer.slack, &plan[..stages], out)
+}
