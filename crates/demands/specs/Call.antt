@@ -132,7 +132,7 @@ module _ (bs : List ℕ) (p q : ℕ) (table : List ℤ) (buffer : List ℕ) wher
         go (accept c) e = (c, e)
         go (refuse s) e = absurd (omega (arith, number, refusal-is e, planned-numbered bs p q (length table) (length buffer) .some s e))
 
-    number-refused : {m : ℕ} → r .refusal ≡ m → 1 ≤ m → planned bs p q (length table) (length buffer) ≡ refuse m
+    pub number-refused : {m : ℕ} → r .refusal ≡ m → 1 ≤ m → planned bs p q (length table) (length buffer) ≡ refuse m
     number-refused {m} z one = go (planned bs p q (length table) (length buffer)) refl
       where
         go : (a : Answer Choice) → planned bs p q (length table) (length buffer) ≡ a → planned bs p q (length table) (length buffer) ≡ refuse m
@@ -145,7 +145,7 @@ module _ (bs : List ℕ) (p q : ℕ) (table : List ℤ) (buffer : List ℕ) wher
     enough {n} h one e = columns-enough (accepted bs n h) p q one (length table) e
 
     -- the plan that an accepted answer leaves at the front of the buffer
-    plan-taken : (n : Net) → read bs ≡ accept n → (c : Choice) → planned bs p q (length table) (length buffer) ≡ accept c
+    pub plan-taken : (n : Net) → read bs ≡ accept n → (c : Choice) → planned bs p q (length table) (length buffer) ≡ accept c
         → (chosen n (grainExponent n p q) ≡ some (c .plan)) × (take (stages n) after ≡ c .plan)
     plan-taken n h c e =
         let S = settled bs p q (length table) (length buffer) e in

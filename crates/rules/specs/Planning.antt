@@ -113,4 +113,3 @@ pub record Demand3 (bs : List ℕ) (p q : ℕ) (table : List ℤ) (buffer after 
   -- With the share in its range and the plan buffer in order the net is then planned, if any plan of it meets timing.
   pub planned : (n : Net) → read bs ≡ accept n → 1 ≤ p → p ≤ maxShare → 1 ≤ q → q ≤ maxShare → stages n ≤ length buffer
       → enoughColumns p q (stages n) * (stages n + 2) ≤ length table → Plannable n → r .refusal ≡ 0
-

@@ -70,7 +70,7 @@ same-length-6 : tie.Need-same-length-6
 same-length-6 c = search needs
 
 returns-3 : tie.Need-returns-3
-returns-3 c = 
+returns-3 c =
     let I = rw (c .before .before .before .before .outcome .given .1) at (c .before .before .before .before .before .before .before .before .before .plan-stages .ensures) in
     let e = c .before .judged .ensures in
     found-judged _ _ _ _ _ (c .before .before .before .before .before .before .before .before .before .before .before .before .before .before .before .pre) I (ap (λ (j : Judged). j .cost) e) (slack-told _ _ _ _ _ (c .before .before .before .before .before .before .before .before .before .before .before .before .before .before .before .pre) I e)

@@ -75,10 +75,10 @@ slice-aggregate-plan-tree-4 c = search needs
 
 plan-tree-requires : tie.Need-plan-tree-requires
 plan-tree-requires c κs = record {
-      tree = _;
-      problem = problem-in (c .before .before .before .before .before .before .before .before .before .before .before .before .before .before .before .before .before .before .before .before .before .before .before .before .before .before .before .before .before .pre) (c .before .before .before .before .before .before .before .before .before .before .stage-numbers .ensures) (c .before .before .before .before .before .before .before .before .before .before .before .before .before .before .before .before .before .before .before .before .before .tables .ensures .priced) (toZ-ofZ (sfits-of {w = w64} (c .before .before .before .before .before .before .time-at .ok)) ∙ (c .before .before .before .before .before .before .time-at .ensures ∙ arrival-at (c .before .before .before .before .before .before .before .before .before .before .before .before .before .before .before .before .before .before .before .before .before .before .before .before .before .before .before .before .before .pre .kept .held) .is));
-      plan-long = c .before .before .before .before .before .before .before .before .before .before .before .before .before .before .before .before .before .before .before .before .before .before .before .before .before .before .before .before .before .pre .room-enough;
-    }
+  tree = _;
+  problem = problem-in (c .before .before .before .before .before .before .before .before .before .before .before .before .before .before .before .before .before .before .before .before .before .before .before .before .before .before .before .before .before .pre) (c .before .before .before .before .before .before .before .before .before .before .stage-numbers .ensures) (c .before .before .before .before .before .before .before .before .before .before .before .before .before .before .before .before .before .before .before .before .before .tables .ensures .priced) (toZ-ofZ (sfits-of {w = w64} (c .before .before .before .before .before .before .time-at .ok)) ∙ (c .before .before .before .before .before .before .time-at .ensures ∙ arrival-at (c .before .before .before .before .before .before .before .before .before .before .before .before .before .before .before .before .before .before .before .before .before .before .before .before .before .before .before .before .before .pre .kept .held) .is));
+  plan-long = c .before .before .before .before .before .before .before .before .before .before .before .before .before .before .before .before .before .before .before .before .before .before .before .before .before .before .before .before .before .pre .room-enough;
+}
 
 same-length : tie.Need-same-length
 same-length c = search needs

@@ -37,7 +37,7 @@ net-refusal-requires : tie.Need-net-refusal-requires
 net-refusal-requires c κs = search needs
 
 returns : tie.Need-returns
-returns c = 
+returns c =
     rw (c .net-refusal .ensures ∙ ap netRefusal (c .before .enum-told .given .1))
     (judge-unread _ _ (rw (c .before .enum-told .given .1) at (c .before .before .before .before .read .ensures)))
 
@@ -45,12 +45,12 @@ are-layers-requires : tie.Need-are-layers-requires
 are-layers-requires c κs = search needs
 
 returns-2 : tie.Need-returns-2
-returns-2 c = 
+returns-2 c =
     let k = kept (c .before .before) in
     judge-7 _ _ (k .held) (λ e. eqb-false _ _ (not-true _ (c .if1 .taken)) (e ∙ sym (k .stages-are)))
 
 returns-3 : tie.Need-returns-3
-returns-3 c = 
+returns-3 c =
     let k = kept (c .before .before .before) in
     judge-8 _ _ (k .held) (eqb-true _ _ (not-false _ (c .before .if1 .left)) ∙ k .stages-are) (sym (c .before .before .are-layers .ensures _ (k .held .layers-are)) ∙ not-true _ (c .if2 .taken))
 
@@ -58,12 +58,12 @@ slice-aggregate-judged : tie.Need-slice-aggregate-judged
 slice-aggregate-judged c = search needs
 
 judged-requires : tie.Need-judged-requires
-judged-requires c κs = 
+judged-requires c κs =
     let k = kept (c .before .before .before .before) in
     (k .held, fitting _ (eqb-true _ _ (not-false _ (c .before .before .if1 .left)) ∙ k .stages-are) (sym (c .before .before .before .are-layers .ensures _ (k .held .layers-are)) ∙ not-false _ (c .before .if2 .left)))
 
 returns-4 : tie.Need-returns-4
-returns-4 c = 
+returns-4 c =
     let k = kept (c .before .before .before .before .before) in
     c .judged .ensures ∙
     judge-done _ _ (k .held) (eqb-true _ _ (not-false _ (c .before .before .before .if1 .left)) ∙ k .stages-are) (sym (c .before .before .before .before .are-layers .ensures _ (k .held .layers-are)) ∙ not-false _ (c .before .before .if2 .left))

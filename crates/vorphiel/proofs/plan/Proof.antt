@@ -17,7 +17,7 @@ same-length-2 : tie.Need-same-length-2
 same-length-2 c = search needs
 
 returns : tie.Need-returns
-returns c = 
+returns c =
     let E = c .before .before .before .planned .ensures in
     (E .same, (E .floor-kept, (demand-2 _ _ _ _ _ _ (E .same), demand-3 _ _ _ _ _ _ (E .same))))
 

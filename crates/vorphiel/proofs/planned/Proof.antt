@@ -40,7 +40,7 @@ refused-requires : tie.Need-refused-requires
 refused-requires c κs = search needs
 
 returns : tie.Need-returns
-returns c = 
+returns c =
     rw (c .refused .ensures ∙ ap refusedWith (c .before .net-refusal .ensures ∙ ap netRefusal (c .before .before .enum-told .given .1)))
     (plan-unread _ _ _ _ _ (rw (c .before .before .enum-told .given .1) at (c .before .before .before .before .before .read .ensures)))
 
@@ -51,14 +51,14 @@ refused-requires-2 : tie.Need-refused-requires-2
 refused-requires-2 c κs = search needs
 
 returns-2 : tie.Need-returns-2
-returns-2 c = 
+returns-2 c =
     rw (c .refused2 .ensures) (plan-9 _ _ _ _ _ (kept (c .before .before .before)) (sym (c .before .before .share-in-range .ensures) ∙ not-true _ (c .before .if1 .taken)))
 
 refused-requires-3 : tie.Need-refused-requires-3
 refused-requires-3 c κs = search needs
 
 returns-3 : tie.Need-returns-3
-returns-3 c = 
+returns-3 c =
     rw (c .refused3 .ensures)
     (plan-10 _ _ _ _ _ (kept (c .before .before .before .before)) (sym (c .before .before .before .share-in-range .ensures) ∙ not-false _ (c .before .before .if1 .left)) (c .before .if2 .taken))
 
