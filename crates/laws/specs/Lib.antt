@@ -6,3 +6,6 @@ pub mod Counting
 pub mod Sums
 pub mod Integers
 pub mod Extremes
+pub mod Passing
+pub mod Appending
+pub mod Quotients

@@ -11,7 +11,7 @@ use borrow.Author.Tests.{eq-eqb, ne-eqb}
 use mir.Syntax.{w64}
 use mir.Val.{toZ, ofZ}
 use Rattle.oracle.specs.Rows.{Dual}
-use Rattle.rows.specs.General.{passing, passing-more, passing-skip}
+use Rattle.laws.specs.Passing.{passing, passing-more, passing-skip}
 use Rattle.rows.specs.Entries.{rowAt, Apart, Kept, maxEntry, mergedLow, InRange, RowIn, range-more, apart-sym, row-ends, row-unmerged}
 use Rattle.rows.specs.Slices.{place}
 use Rattle.rows.specs.Contracts.{Filled, BranchIn, Branched, MergeIn, Merged, NextDriven, BranchesIn, Joined}

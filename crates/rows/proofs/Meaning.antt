@@ -18,7 +18,7 @@ use Rattle.oracle.specs.Stages.{StageTree, HasTerminal, drivenBy, drivesStage, 
 use Rattle.oracle.specs.Programme.{leastOn, least-is}
 use Rattle.oracle.specs.Timing.{late, lateCount, charge, leastAt}
 use Rattle.oracle.specs.Rows.{Dual, dual-sink, dual-sinks}
-use Rattle.rows.specs.General.{keep-same, sum-member, leastUpTo, leastUpTo-is}
+use Rattle.laws.specs.Passing.{keep-same, sum-member, leastUpTo, leastUpTo-is}
 use Rattle.rows.specs.Entries.{rowAt, maxEntry, noLimit}
 use Rattle.rows.specs.Slices.{place}
 use Rattle.rows.specs.Contracts.{drivenAsk, Joined, FinishedFrom, DualFrom, Represents}

@@ -9,7 +9,7 @@ use lib.IntN.{ℤ, pos}
 use Rattle.oracle.specs.Stages.{StageTree}
 use Rattle.oracle.specs.Timing.{leastAt}
 use Rattle.oracle.specs.Rows.{Dual, dual-never}
-use Rattle.rows.specs.General.{leastUpTo}
+use Rattle.laws.specs.Passing.{leastUpTo}
 use Rattle.rows.specs.Entries.{rowAt, Outside, maxEntry, never, never-range, InRange, RowIn, row-ends, row-outside, row-unmerged}
 use Rattle.rows.specs.Slices.{place}
 use Rattle.rows.specs.Contracts.{Filled, SpendIn, Spent, BranchesIn, Joined, FinishedFrom, StageIn, DualFrom, Represents, StageRow}

@@ -1,4 +1,3 @@
-pub mod General
 pub mod Entries
 pub mod Slices
 pub mod Contracts

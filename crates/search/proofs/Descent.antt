@@ -16,7 +16,7 @@ use Rattle.laws.specs.Booleans.{same-or}
 use Rattle.rules.specs.Grain.{maxExponent}
 use Rattle.oracle.specs.Stages.{StageTree}
 use Rattle.oracle.specs.Value.{value, passes, exponent, MeetingPlan, value-doubled, value-zero, value-exponent, exponent-is, floor-below}
-use Rattle.search.specs.General.{mul-quotient-le}
+use Rattle.laws.specs.Quotients.{mul-quotient-le}
 use Rattle.search.specs.Problem.{Numbers, Problem}
 use Rattle.search.specs.Contracts.{Round, RoundIn, TestIn, DescendIn, GrainFound}
 use Rattle.search.proofs.Rounds.{round-value}

@@ -13,7 +13,7 @@ use Rattle.oracle.specs.Stages.{StageTree}
 use Rattle.oracle.specs.Value.{value, exponent, MeetingPlan}
 use Rattle.oracle.specs.Result.{readPlan, least-value, read-chosen}
 use Rattle.readoff.specs.Contracts.{Sized, Finished, ReadIn, PlanRead}
-use Rattle.search.specs.General.{mul-quotient-le}
+use Rattle.laws.specs.Quotients.{mul-quotient-le}
 use Rattle.search.specs.Problem.{Numbers, Problem, problem-same}
 use Rattle.search.specs.Contracts.{Feasible, DescendIn, GrainFound}
 use Rattle.search.specs.Planned.{PlanIn, IsLate, IsShort, IsFound}

@@ -1,4 +1,3 @@
-pub mod General
 pub mod Problem
 pub mod Contracts
 pub mod Planned

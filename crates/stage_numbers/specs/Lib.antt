@@ -1,4 +1,3 @@
-pub mod General
 pub mod Rows
 pub mod Limits
 pub mod Noted

@@ -24,7 +24,7 @@ use Rattle.facts.specs.Bounds.{delay-in}
 use Rattle.demands.specs.StageNumbers.{sinkLimit, sinkLimits, sinksOf, SinkOf, limit-mem}
 use Rattle.delays.specs.Delayed.{delayTo}
 use Rattle.readoff.specs.Laid.{noLimit, limitOf}
-use Rattle.stage_numbers.specs.General.{keep-append, from-last, least-last}
+use Rattle.laws.specs.Appending.{keep-append, from-last, least-last}
 
 -- The sinks of stage t among these nodes.
 abbrev sinksAmong : Net → ℕ → List ℕ → List ℕ

@@ -1,4 +1,4 @@
--- A general law of division that the columns of a table need.
+-- A law of division in general.
 use Prim.Native.Nat.{ℕ, _*_, _/_, _≤_}
 use native.Mathlib.Nat.{mul-comm, div-mul-le-self}
 

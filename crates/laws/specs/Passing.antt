@@ -1,11 +1,11 @@
--- General laws of lists that the rows need: equal tests keep equal members; sums and least values over numbers in order, one number more at the end.
+-- Laws of lists in general: equal tests keep equal members; sums and least values over numbers in order, one number more at the end.
 use mathlib.Core.Path.{_≡_, refl, _∙_}
 use mathlib.Core.Bool.{Bool, true, false}
 use mathlib.Core.List.{List, [], _∷_, map, List·Memᴰ, List·Memᴰ·head, List·Memᴰ·tail, List·Memᴰ·not-nil}
 use Prim.Native.Nat.{ℕ, zero, suc, _+_, _-_, _≤_, _<_, min}
 use native.Mathlib.Omega.{arith}
 use native.Mathlib.Nat.{add-zero}
 use Rattle.laws.specs.Basic.{if_then_else_, from, sum, keep, lowest}
 
 -- Tests that agree on the members of a list keep the same members.
 pub keep-same {ℓ} : {A : Type ℓ} (p q : A → Bool) (xs : List A) → ((x : A) → List·Memᴰ x xs → p x ≡ q x) → keep p xs ≡ keep q xs
