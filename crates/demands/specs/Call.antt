@@ -29,6 +29,10 @@ taken-numbered : (o : Option (List ℕ)) → Numbered 12 (taken o)
 taken-numbered none = refuse-numbered 12 11 (omega arith) (omega arith)
 taken-numbered (some x) = accept-numbered 12 x
 
+-- A share in its range passes the test of refusal 9.
+pub share-in : (p q : ℕ) → p ≤ maxShare → 1 ≤ q → q ≤ maxShare → leb p maxShare && within 1 maxShare q ≡ true
+share-in p q p-in q-some q-in = rw (le-leb p 1000 p-in, le-leb 1 q q-some, le-leb q 1000 q-in) refl
+
 taken-is : (o : Option (List ℕ)) {x : List ℕ} → taken o ≡ accept x → o ≡ some x
 taken-is none e = not-refused e
 taken-is (some y) e = ap some (accept-injective e)
@@ -155,9 +159,6 @@ module _ (bs : List ℕ) (p q : ℕ) (table : List ℤ) (buffer : List ℕ) wher
         let l : stages n ≡ length (c .plan) = sym (plan-length n (c .plan) (chosen-is n (grainExponent n p q) (c .plan) o .is-plan)) in
         (o, ap (λ (k : ℕ). take k after) l ∙ ap (take (length (c .plan))) b ∙ take-at (c .plan) (drop (length (c .plan)) buffer) (length (c .plan)) refl)
 
-    share-in : p ≤ maxShare → 1 ≤ q → q ≤ maxShare → leb p maxShare && within 1 maxShare q ≡ true
-    share-in p-in q-some q-in = rw (le-leb p 1000 p-in, le-leb 1 q q-some, le-leb q 1000 q-in) refl
-
     pub demand-3 : Demand3 bs p q table buffer after r
     demand-3 = record {
       near = λ n h z. nearness n h (accepted-choice z);
@@ -180,7 +181,7 @@ module _ (bs : List ℕ) (p q : ℕ) (table : List ℤ) (buffer : List ℕ) wher
             → ltb 0 (length (meetingPlans n)) ≡ true → r .refusal ≡ 0
         served n h one p-in q-some q-in room e t11 =
             let (x, o) = chosen-some n (grainExponent n p q) t11 in
-            let t9 = share-in p-in q-some q-in in
+            let t9 = share-in p q p-in q-some q-in in
             let a = all-pass bs p q (length table) (length buffer) h t9 (le-leb (stages n) (length buffer) room) t11 (enough h one e) o in
             number ∙ ap (λ (a : PlanAnswer). a .refusal) (plan-accepted a)
 
@@ -188,7 +189,7 @@ module _ (bs : List ℕ) (p q : ℕ) (table : List ℤ) (buffer : List ℕ) wher
     pub demand-2 : Demand2 bs p q table buffer after r
     demand-2 = record {
       late-only = λ n h z some-plan. not-late bs p q (length table) (length buffer) h (some-plan-iff n .1 some-plan) (number-refused z (omega arith));
-      late = λ n h p-in q-some q-in room none-meets. number ∙ refusal-is (all-late bs p q (length table) (length buffer) h (share-in p-in q-some q-in) (le-leb (stages n) (length buffer) room) (none-late n none-meets));
+      late = λ n h p-in q-some q-in room none-meets. number ∙ refusal-is (all-late bs p q (length table) (length buffer) h (share-in p q p-in q-some q-in) (le-leb (stages n) (length buffer) room) (none-late n none-meets));
       short-only = λ n h z. too-few n h (number-refused z (omega arith));
       first = λ n h z. first-plan n h (accepted-choice z);
     }

@@ -1,9 +1,8 @@
 -- The law that the program rests on: it holds no more than the front of its input, and the line is the one for the whole input.
-use mathlib.Core.Path.{_≡_, refl, ap, sym, _∙_}
+use mathlib.Core.Path.{_≡_}
 use mathlib.Core.List.{List}
 use Prim.Native.Nat.{ℕ, _≤_}
 use lib.ListN.{take}
-use Rattle.rules.specs.Reading.{read}
 use Rattle.rules.specs.Planning.{planned}
 use Rattle.rules.specs.Program.{programLine}
 use Rattle.longest.specs.Longest.{front, read-front}

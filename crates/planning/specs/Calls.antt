@@ -1,10 +1,10 @@
 -- What planning a net is given and gives: the answer of 01, the buffer and the table it leaves, and the floor.
 use mathlib.Core.Path.{_≡_, refl, ap, sym, _∙_, subst}
-use mathlib.Core.Bool.{Bool, true, false, _&&_}
+use mathlib.Core.Bool.{true, false, _&&_}
 use mathlib.Core.List.{List, _++_}
-use Prim.Native.Nat.{ℕ, _*_, _≤_, _<_}
+use Prim.Native.Nat.{ℕ, _*_, _≤_}
 use native.Mathlib.Omega.{arith}
-use lib.Dec.{leb, ltb, eqb}
+use lib.Dec.{leb, eqb}
 use lib.ListN.{length, take, drop, replicate}
 use lib.IntN.{ℤ, pos}
 use borrow.Author.Tests.{le-leb}
@@ -12,19 +12,18 @@ use mir.Syntax.{w64}
 use mir.Val.{toZ, ofZ}
 use mir.Facts.{toZ-ofZ}
 use Rattle.laws.specs.Booleans.{and-right}
-use Rattle.laws.specs.Basic.{if_then_else_, within}
+use Rattle.laws.specs.Basic.{within}
 use Rattle.rules.specs.declared.Planned.{Planned}
 use Rattle.rules.specs.declared.Judged.{Judged}
 use Rattle.rules.specs.Tree.{Net, stages, isPlan, areLayers}
 use Rattle.rules.specs.Timing.{cost, slack}
-use Rattle.rules.specs.Grain.{meetingPlans, grainExponent, columns, columnsNeeded}
-use Rattle.rules.specs.Reading.{Answer, accept, refuse, _>>=_, _>>_, _unless_, read}
-use Rattle.rules.specs.Planning.{maxShare, Choice, taken, planned, PlanAnswer, cleared, plan, planAnswer, IsFloor, FloorPromise}
+use Rattle.rules.specs.Reading.{accept, refuse, _>>=_, _>>_, _unless_}
+use Rattle.rules.specs.Planning.{maxShare, Choice, planned, cleared, plan, planAnswer, IsFloor, FloorPromise}
 use Rattle.facts.specs.Answers.{accept-injective}
 use Rattle.facts.specs.Fits.{slack-fits, fits-signed}
-use Rattle.tree.specs.Held.{Held, Kept, netOf, held-accepted}
+use Rattle.tree.specs.Held.{Kept, netOf, held-accepted}
 use Rattle.demands.specs.StageNumbers.{treeOf}
-use Rattle.demands.specs.Call.{all-pass, plan-accepted}
+use Rattle.demands.specs.Call.{share-in, all-late, all-pass, plan-accepted}
 use Rattle.timing.specs.Tables.{Fitting, fitting}
 use Rattle.costs.specs.Priced.{Priced}
 use Rattle.readoff.specs.Laid.{Laid}
@@ -61,7 +60,7 @@ pub record PlansNet (bs : List ℕ) (p q : ℕ) (table tableAfter : List ℤ) (b
   pub floor-kept : FloorPromise bs p q r
 
 share-passes : {p q : ℕ} → Share p q → leb p maxShare && within 1 maxShare q ≡ true
-share-passes {p} {q} S = rw (le-leb p 1000 (S .most), le-leb 1 q (S .some-part), le-leb q 1000 (S .parts)) refl
+share-passes {p} {q} S = share-in p q (S .most) (S .some-part) (S .parts)
 
 pub refused-floor : (bs : List ℕ) (p q r : ℕ) → 1 ≤ r → FloorPromise bs p q (refusedWith r)
 refused-floor bs p q r h = record { bounded = λ n e z. absurd (omega arith); zero-refused = λ z. refl }
@@ -91,10 +90,6 @@ module _ (bs : List ℕ) (p q : ℕ) (table : List ℤ) (buffer : List ℕ) wher
     room-passes : leb (stages n) (length buffer) ≡ true
     room-passes = le-leb (stages n) (length buffer) (omega (arith, G .room-enough, G .kept .stages-are))
 
-    planned-11 : ltb 0 (length (meetingPlans n)) ≡ false → planned bs p q (length table) (length buffer) ≡ refuse 11
-    unfolding planned
-    planned-11 t11 = simp (G .kept .held .holds, share-passes (G .share), room-passes, t11)
-
     planned-12 : TooShort {n = n} (held-accepted (G .kept .held)) p q (length table) → planned bs p q (length table) (length buffer) ≡ refuse 12
     unfolding planned
     planned-12 S = simp (G .kept .held .holds, share-passes (G .share), room-passes, S .some-meets, S .few)
@@ -103,7 +98,7 @@ module _ (bs : List ℕ) (p q : ℕ) (table : List ℤ) (buffer : List ℕ) wher
     pub late-answer : {after : List ℤ} {bufferAfter : List ℕ} → IsLate (treeOf n) p q s table after buffer bufferAfter
         → PlansNet bs p q table after buffer bufferAfter (refusedWith 11)
     late-answer I = record {
-      same = rw (I .table-kept, I .plan-kept) (plan-refused (planned-11 (late (held-accepted (G .kept .held)) I)) refl);
+      same = rw (I .table-kept, I .plan-kept) (plan-refused (all-late bs p q (length table) (length buffer) (G .kept .held .holds) (share-passes (G .share)) room-passes (late (held-accepted (G .kept .held)) I)) refl);
       floor-kept = refused-floor bs p q 11 (omega arith);
     }
 

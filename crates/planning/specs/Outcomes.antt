@@ -3,30 +3,27 @@ use mathlib.Core.Path.{_≡_, refl, ap, sym, _∙_}
 use mathlib.Core.Bool.{Bool, true, false}
 use mathlib.Core.Option.{some}
 use mathlib.Core.List.{List, _++_}
-use Prim.Native.Nat.{ℕ, zero, suc, _+_, _*_, _/_, _^_, _≤_, _<_}
+use Prim.Native.Nat.{ℕ, _+_, _*_, _/_, _^_, _≤_, _<_}
 use native.Mathlib.Omega.{arith}
-use native.Mathlib.Nat.{pow-suc, mul-comm}
 use lib.Dec.{leb, ltb}
-use lib.ListN.{length, take, drop, replicate}
+use lib.ListN.{length, take, drop}
 use lib.Seq.{take-at}
-use lib.IntN.{ℤ, pos}
+use lib.IntN.{ℤ}
 use borrow.Author.Tests.{le-leb, lt-leb}
-use Rattle.rules.specs.declared.Planned.{Planned}
 use Rattle.rules.specs.Tree.{Net, stages, layerCount, isPlan}
-use Rattle.rules.specs.Timing.{cost, slack}
+use Rattle.rules.specs.Timing.{cost}
 use Rattle.rules.specs.Grain.{maxExponent, meetingPlans, leastRounded, grainExponent, chosen, columns, columnsNeeded}
-use Rattle.rules.specs.Planning.{IsFloor, cleared}
+use Rattle.rules.specs.Planning.{IsFloor}
 use Rattle.facts.specs.Accepted.{Accepted}
-use Rattle.oracle.specs.Stages.{StageTree}
 use Rattle.oracle.specs.Value.{value, exponent, firstPlan, MeetingPlan}
 use Rattle.demands.specs.StageNumbers.{treeOf, well-formed}
 use Rattle.demands.specs.Same.{value-same, exponent-same, first-same}
 use Rattle.demands.specs.Plans.{some-plan-iff, some-meeting, meeting, meeting-is, plan-length}
 use Rattle.demands.specs.Values.{small-costs, grain-small}
-use Rattle.demands.specs.Demand2.{ChosenPlan, chosen-is}
+use Rattle.demands.specs.Demand2.{chosen-is}
 use Rattle.demands.specs.Demand3.{chosen-floor}
 use Rattle.readoff.specs.Laid.{Laid}
-use Rattle.search.specs.Problem.{Numbers, Problem}
+use Rattle.search.specs.Problem.{Problem}
 use Rattle.search.specs.Planned.{IsLate, IsShort, IsFound}
 
 -- the search's problem, from the numbers of the net

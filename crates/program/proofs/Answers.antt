@@ -1,23 +1,22 @@
 -- The program's line, by what planning and checking answer.
-use mathlib.Core.Path.{_≡_, refl, ap, sym, _∙_, subst}
-use mathlib.Core.List.{List, _++_}
-use Prim.Native.Nat.{ℕ, _≤_, _<_, _^_}
+use mathlib.Core.Path.{_≡_, refl, ap, _∙_}
+use mathlib.Core.List.{List}
+use Prim.Native.Nat.{ℕ, _≤_, _^_}
 use native.Mathlib.Omega.{arith}
-use lib.ListN.{length, take, drop, replicate}
-use lib.Seq.{length-take-le}
-use lib.IntN.{ℤ, pos}
+use lib.ListN.{length, take}
+use lib.IntN.{ℤ}
 use Rattle.rules.specs.declared.Planned.{Planned}
 use Rattle.rules.specs.declared.Checked.{Checked}
 use Rattle.rules.specs.Bytes.{maxStages}
 use Rattle.rules.specs.Tree.{Net, stages}
 use Rattle.rules.specs.Timing.{cost, slack}
-use Rattle.rules.specs.Grain.{maxExponent, grainExponent}
+use Rattle.rules.specs.Grain.{maxExponent}
 use Rattle.rules.specs.Reading.{accept, refuse, read, check}
 use Rattle.rules.specs.Planning.{Choice, PlanAnswer, planned, plan, planAnswer}
 use Rattle.rules.specs.Program.{planLine, refusedLine, programLine}
-use Rattle.facts.specs.Accepted.{Accepted, accepted}
+use Rattle.facts.specs.Accepted.{accepted}
 use Rattle.demands.specs.Values.{grain-in}
-use Rattle.demands.specs.Call.{Settled, settled, accepted-choice, number-refused, plan-taken, plan-accepted}
+use Rattle.demands.specs.Call.{settled, accepted-choice, number-refused, plan-taken, plan-accepted}
 
 checked-stages : (bs : List ℕ) (n : Net) → read bs ≡ accept n → check bs .stages ≡ stages n
 unfolding check

@@ -17,29 +17,35 @@ abbrev pub ascii : String → List ℕ
 ascii text.[] = []
 ascii (text._∷_ c s) = code c ∷ ascii s
 
--- The output words (01, Program), with the spaces around them.
+-- The output words (01, Program: `cost 35 grain 4 slack 0 plan 0 1`), with the spaces around them. Before the cost.
 abbrev pub costWord : List ℕ
 costWord = ascii "cost "
 
+-- Before g, the grain.
 abbrev pub grainWord : List ℕ
 grainWord = ascii " grain "
 
+-- Before the slack.
 abbrev pub slackWord : List ℕ
 slackWord = ascii " slack "
 
+-- Before the layers in stage order, each of which brings its own space.
 abbrev pub planWord : List ℕ
 planWord = ascii " plan"
 
+-- Before a refusal's number (01, Program: 'A refusal prints `refused ` and its number').
 abbrev pub refusedWord : List ℕ
 refusedWord = ascii "refused "
 
--- The space before each layer number, the sign of a slack below 0, and the line feed at the end.
+-- The space before each layer number.
 abbrev pub space : List ℕ
 space = ascii " "
 
+-- The sign of a slack below 0.
 abbrev pub minusSign : List ℕ
 minusSign = ascii "-"
 
+-- 'line feed at the end' (01, Program).
 abbrev pub lineFeed : List ℕ
 lineFeed = ascii "\n"
 

@@ -1,5 +1,5 @@
 -- What checking answers, from what the reader gave.
-use mathlib.Core.Path.{_≡_, refl, ap, sym, _∙_}
+use mathlib.Core.Path.{_≡_, ap}
 use mathlib.Core.List.{List}
 use Prim.Native.Nat.{ℕ, _+_, _≤_}
 use native.Mathlib.Omega.{arith}
@@ -7,7 +7,7 @@ use Rattle.rules.specs.Bytes.{maxNodes}
 use Rattle.rules.specs.Tree.{Net}
 use Rattle.rules.specs.Reading.{accept, refuse, read, check}
 use Rattle.facts.specs.Answers.{turned-accepted, turned-refused}
-use Rattle.facts.specs.Accepted.{Accepted, accepted}
+use Rattle.facts.specs.Accepted.{accepted}
 use Rattle.reader.specs.Net.{Counts, countsOf, counts, NetRead}
 use Rattle.reader.specs.declared.Net.the-variants as net
 

@@ -1,15 +1,14 @@
 -- What judging answers, by the refusals in their order, from what the reader gave.
-use mathlib.Core.Path.{_≡_, refl, ap, sym, _∙_}
-use mathlib.Core.Bool.{Bool, true, false}
+use mathlib.Core.Path.{_≡_}
+use mathlib.Core.Bool.{true, false}
 use mathlib.Core.List.{List}
 use Prim.Native.Nat.{ℕ}
-use lib.Dec.{eqb}
 use lib.ListN.{length}
 use lib.IntN.{pos}
 use borrow.Author.Tests.{eq-eqb, ne-eqb}
 use Rattle.rules.specs.Tree.{stages, areLayers}
 use Rattle.rules.specs.Timing.{cost, slack}
-use Rattle.rules.specs.Reading.{accept, refuse, read}
+use Rattle.rules.specs.Reading.{read}
 use Rattle.rules.specs.Judging.{judged, judge}
 use Rattle.facts.specs.Answers.{turned-refused}
 use Rattle.reader.specs.Net.{countsOf, counts, NetRead}

@@ -1,23 +1,23 @@
 -- What planning answers, by the refusals in their order, from what the reader gave.
-use mathlib.Core.Path.{_≡_, refl, ap, sym, _∙_}
-use mathlib.Core.Bool.{Bool, true, false, _&&_}
+use mathlib.Core.Path.{_≡_, refl}
+use mathlib.Core.Bool.{true, false, _&&_}
 use mathlib.Core.List.{List}
 use Prim.Native.Nat.{ℕ, _≤_, _<_}
 use native.Mathlib.Omega.{arith}
-use lib.Dec.{leb, eqb}
+use lib.Dec.{leb}
 use lib.ListN.{length}
 use lib.IntN.{ℤ}
 use borrow.Author.Tests.{leb-true, lt-leb, ne-eqb}
 use Rattle.laws.specs.Basic.{within}
 use Rattle.laws.specs.Booleans.{and-left, and-right}
 use Rattle.rules.specs.Tree.{stages}
-use Rattle.rules.specs.Reading.{Answer, accept, refuse, _>>=_, _>>_, _unless_, read}
+use Rattle.rules.specs.Reading.{refuse, _>>=_, _>>_, _unless_, read}
 use Rattle.rules.specs.Planning.{maxShare, planned}
 use Rattle.facts.specs.Answers.{turned-refused}
-use Rattle.facts.specs.Refusals.{Numbered, read-numbered}
+use Rattle.facts.specs.Refusals.{read-numbered}
 use Rattle.reader.specs.Net.{countsOf, counts, NetRead}
 use Rattle.reader.specs.declared.Net.the-variants as net
-use Rattle.tree.specs.Held.{Held, Kept, netOf}
+use Rattle.tree.specs.Held.{Kept, netOf}
 use Rattle.planning.specs.Calls.{Share, Admitted, refusedWith, PlansNet, refused-floor, plan-refused}
 
 pub share-of : {p q : ℕ} → leb p maxShare && within 1 maxShare q ≡ true → Share p q

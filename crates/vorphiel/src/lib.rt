@@ -131,16 +131,14 @@ pub extern "C" fn vorphiel_judge(net: &[u8], plan: &[u8], cost: &mut u64, slack:
     answer.refusal
 }
 
-const MAX_SHARE: u64 = 1_000;
-
 // Whether a share p/q is in its range (refusal 9).
 fn share_in_range(p: u64, q: u64) -> bool
     ensures { λ r. ⌜ r ≡ leb p maxShare && within 1 maxShare q ⌝ }
 {
-    if MAX_SHARE < p {
+    if rules::MAX_SHARE < p {
         return false;
     }
-    within(q, 1, MAX_SHARE)
+    within(q, 1, rules::MAX_SHARE)
 }
 
 // Planning, by the refusals in their order: 1 to 6 of the net, 9, 10, and what the search gives.
