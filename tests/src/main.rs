@@ -7,19 +7,11 @@
 //!     vorphiel-tests --mutants        no library: wrong planners in its place; says which call exposed each
 //!     --trace before these            says each call on standard error before it is made
 
-mod by_front;
-mod compare;
-mod host;
-mod nets;
-mod plain;
-mod rows;
-mod runs;
-mod wrong;
-
-use compare::{Calls, Comparison, Failure, Planner};
-use plain::{Checked, Judged, Planned, Search};
 use std::process::ExitCode;
-use wrong::{Mistake, Wrong};
+use vorphiel_tests::compare::{Calls, Comparison, Failure, Planner};
+use vorphiel_tests::plain::{Checked, Judged, Planned, Search};
+use vorphiel_tests::wrong::{Mistake, Wrong};
+use vorphiel_tests::{by_front, host, nets, plain, rows, runs, wrong};
 
 /// Without arguments: this seed and this many random nets.
 const SEED: u64 = 1;
