@@ -1,0 +1,1063 @@
+/* A fuzz run over the open calls of the library, through the C interface.
+ *
+ *     fuzz SEED SECONDS NET...
+ *
+ * Random nets are made from the nets in the files, from nets grown here, and from rubbish; vorphiel_check, vorphiel_judge and vorphiel_plan are called on
+ * them with random plans, shares, tables and plan buffers. After each call it is seen whether what the header promises came true. There is no second planner
+ * here: the calls are held against each other and against the header (the comparison with a plain search is in tests/).
+ *
+ * The library is a finished archive that no sanitizer has seen. So every buffer is lent flush with the start or the end of its pages, with pages that may not
+ * be touched before and behind, and what is only to be read stands in pages that cannot be written: a stray read or write ends in a signal.
+ *
+ * The first fault ends the run with status 1 and a report on standard output. The report is itself a net in hexadecimal with comments, as in nets/. The same
+ * seed and files give the same calls, however many seconds are given; after the last second a summary is printed, and the status is 0. Wrong use: status 2. */
+#define _DEFAULT_SOURCE
+#include "vorphiel.h"
+
+#include <errno.h>
+#include <inttypes.h>
+#include <signal.h>
+#include <stdio.h>
+#include <stdlib.h>
+#include <string.h>
+#include <sys/mman.h>
+#include <sys/time.h>
+#include <unistd.h>
+
+enum {
+    MOST_NET = 48 * 1024,    /* bytes of a net tried here; the longest that can be accepted has 20,483 */
+    MOST_FIELDS = 600,       /* fields that are told apart in a net */
+    MOST_PLACES = 64,        /* numbers in a field */
+    MOST_TABLE = 48 * 1024,  /* entries of a table: more than enough for 64 stages at share 1/4 */
+    MOST_PLAN = 300,         /* bytes of a plan or plan buffer */
+    MOST_STAGES = 64,
+    MOST_LAYERS = 16,
+    MOST_NODES = 256,        /* the driver included */
+    MOST_SHARE = 1000,
+    MOST_K = 28,
+    POOL = 64,               /* nets that are kept to make others from */
+    PATIENCE = 10,           /* seconds after which a call is a fault */
+};
+
+/* ---- Random numbers (splitmix64) ---- */
+
+static uint64_t random_state;
+
+static uint64_t any(void)
+{
+    uint64_t z = random_state += 0x9E3779B97F4A7C15;
+    z = (z ^ (z >> 30)) * 0xBF58476D1CE4E5B9;
+    z = (z ^ (z >> 27)) * 0x94D049BB133111EB;
+    return z ^ (z >> 31);
+}
+
+/* From 0 to n - 1. */
+static size_t below(size_t n)
+{
+    return any() % n;
+}
+
+static int one_in(size_t n)
+{
+    return below(n) == 0;
+}
+
+/* Both ends included. */
+static int64_t between(int64_t low, int64_t high)
+{
+    return (int64_t)((uint64_t)low + any() % ((uint64_t)high - (uint64_t)low + 1));
+}
+
+/* ---- Lent buffers ---- */
+
+enum { NET, PLAN, TABLE, RESULTS, LENT = RESULTS + 4 };
+
+/* Pages with a guard before and behind, and what is lent of them. */
+struct lent {
+    const char *name;
+    uint8_t *pages;
+    size_t size;
+    uint8_t *at;
+    size_t len;
+};
+
+static struct lent lent[LENT] = {
+    {.name = "net"},      {.name = "plan"},     {.name = "table"},    {.name = "result 0"},
+    {.name = "result 1"}, {.name = "result 2"}, {.name = "result 3"},
+};
+
+/* A guard is wide, so that a wild index falls into it too. Within the pages a margin of known bytes stands on the side that has no guard. */
+enum { GUARD = 1 << 20, MARGIN = 256, EDGE = 0xA5 };
+
+static void make_lent(struct lent *l, size_t most)
+{
+    size_t page = (size_t)sysconf(_SC_PAGESIZE);
+    l->size = (most + page - 1) / page * page;
+    uint8_t *all = mmap(NULL, l->size + 2 * GUARD, PROT_NONE, MAP_PRIVATE | MAP_ANONYMOUS, -1, 0);
+    if (all == MAP_FAILED || mprotect(all + GUARD, l->size, PROT_READ | PROT_WRITE) != 0) {
+        perror("fuzz: memory");
+        exit(2);
+    }
+    l->pages = all + GUARD;
+    memset(l->pages, EDGE, l->size);
+}
+
+static void make_all_lent(void)
+{
+    make_lent(&lent[NET], MOST_NET);
+    make_lent(&lent[PLAN], MOST_PLAN);
+    make_lent(&lent[TABLE], MOST_TABLE * sizeof(int64_t));
+    for (int i = RESULTS; i < LENT; i++)
+        make_lent(&lent[i], sizeof(uint64_t));
+}
+
+static size_t margin(size_t room)
+{
+    return room < MARGIN ? room : MARGIN;
+}
+
+static size_t room_before(const struct lent *l)
+{
+    return (size_t)(l->at - l->pages);
+}
+
+static size_t room_behind(const struct lent *l)
+{
+    return l->size - l->len - room_before(l);
+}
+
+/* Copies some bytes to where they are lent: flush with the first page's start or the last page's end. */
+static void lend(struct lent *l, const void *content, size_t len)
+{
+    l->len = len;
+    l->at = one_in(2) ? l->pages : l->pages + l->size - len;
+    size_t before = margin(room_before(l));
+    memset(l->at - before, EDGE, before);
+    memset(l->at + len, EDGE, margin(room_behind(l)));
+    memcpy(l->at, content, len);
+}
+
+static int all_are(const uint8_t *at, size_t len, uint8_t value)
+{
+    for (size_t i = 0; i < len; i++)
+        if (at[i] != value)
+            return 0;
+    return 1;
+}
+
+/* Whether the margins still hold what they held. */
+static int margins_kept(const struct lent *l)
+{
+    size_t before = margin(room_before(l));
+    return all_are(l->at - before, before, EDGE) && all_are(l->at + l->len, margin(room_behind(l)), EDGE);
+}
+
+static void protect(struct lent *l, int how)
+{
+    if (mprotect(l->pages, l->size, how) != 0) {
+        perror("fuzz: mprotect");
+        exit(2);
+    }
+}
+
+/* ---- The call under way, and the report of a fault ---- */
+
+enum { CHECK, JUDGE, PLANNING, CALLS };
+
+static const char *const CALL_NAMES[] = {"vorphiel_check", "vorphiel_judge", "vorphiel_plan"};
+
+static struct {
+    volatile sig_atomic_t under_way;
+    int call;
+    uint64_t number; /* of the call, from 1 */
+    uint64_t seed;
+    int shared;      /* the net was planned, with this share: */
+    uint64_t p, q;
+} now;
+
+/* Only write is used from here on, for the report may come from within a signal. */
+static void say(const char *text)
+{
+    if (write(STDOUT_FILENO, text, strlen(text)) < 0)
+        _exit(1);
+}
+
+static void say_number(const char *before, uint64_t number)
+{
+    char digits[24], *at = digits + sizeof digits - 1;
+    *at = '\0';
+    do {
+        *--at = (char)('0' + number % 10);
+        number /= 10;
+    } while (number != 0);
+    say(before);
+    say(at);
+}
+
+/* 32 bytes a line, each line after the same words. */
+static void say_bytes(const char *before, const struct lent *l)
+{
+    static const char HEX[] = "0123456789ABCDEF";
+    for (size_t start = 0; start < l->len; start += 32) {
+        char text[66], *to = text;
+        for (size_t i = start; i < l->len && i < start + 32; i++) {
+            *to++ = HEX[l->at[i] >> 4];
+            *to++ = HEX[l->at[i] & 15];
+        }
+        *to++ = '\n';
+        *to = '\0';
+        say(before);
+        say(text);
+    }
+}
+
+static void say_lent(const struct lent *l, size_t unit)
+{
+    say("# lent: ");
+    say(l->name);
+    say_number(" of length ", l->len / unit);
+    say(l->at == l->pages ? ", flush with the start of its pages\n" : ", flush with the end of its pages\n");
+}
+
+/* The lent buffers and the numbers of the call; of the last planning too, if what it gave is being looked at. */
+static void say_call(void)
+{
+    say_lent(&lent[NET], 1);
+    if (now.call != CHECK)
+        say_lent(&lent[PLAN], 1);
+    if (now.call == JUDGE)
+        say_bytes("#   ", &lent[PLAN]);
+    if (now.shared) {
+        say_lent(&lent[TABLE], sizeof(int64_t));
+        say_number("# share: p ", now.p);
+        say_number(", q ", now.q);
+        say("\n");
+    }
+}
+
+/* Says what was wrong with which call, and ends the run. */
+static void fault(const char *what)
+{
+    say("# fuzz: ");
+    say(what);
+    say_number("\n# seed ", now.seed);
+    say_number(", call ", now.number);
+    say(now.under_way ? ", within " : ", after ");
+    say(CALL_NAMES[now.call]);
+    say("\n");
+    say_call();
+    say_bytes("", &lent[NET]);
+    _exit(1);
+}
+
+/* Names the lent buffer at which a signal's address lies. */
+static void say_address(const uint8_t *address)
+{
+    for (int i = 0; i < LENT; i++) {
+        const struct lent *l = &lent[i];
+        if (address < l->pages - GUARD || address >= l->pages + l->size + GUARD)
+            continue;
+        int ahead = address < l->at;
+        say("# fuzz: at the ");
+        say(l->name);
+        say_number(ahead ? ", bytes before its start: " : ", bytes after its start: ", (uint64_t)(ahead ? l->at - address : address - l->at));
+        say_number(", its bytes: ", l->len);
+        say("\n");
+    }
+}
+
+static void on_signal(int number, siginfo_t *info, void *context)
+{
+    (void)context;
+    if (number == SIGSEGV || number == SIGBUS)
+        say_address(info->si_addr);
+    fault(number == SIGSEGV ? "SIGSEGV: memory that was not lent, or lent only to be read"
+          : number == SIGBUS ? "SIGBUS"
+          : number == SIGILL ? "SIGILL: the library gave up"
+          : number == SIGFPE ? "SIGFPE"
+                             : "SIGABRT: the library gave up");
+}
+
+/* The clock ticks once a second: it ends the run, and it finds a call that does not return. */
+static volatile sig_atomic_t seconds;
+
+static void on_tick(int number)
+{
+    static uint64_t last;
+    static int waited;
+    (void)number;
+    seconds++;
+    waited = now.number == last ? waited + 1 : 0;
+    last = now.number;
+    if (waited >= PATIENCE)
+        fault("no end in ten seconds");
+}
+
+static void set_signals(void)
+{
+    static uint8_t stack[1 << 16]; /* the handler's own: the library's may have run out */
+    stack_t own = {.ss_sp = stack, .ss_size = sizeof stack};
+    struct sigaction crash = {.sa_sigaction = on_signal, .sa_flags = SA_SIGINFO | SA_ONSTACK};
+    struct sigaction tick = {.sa_handler = on_tick, .sa_flags = SA_RESTART | SA_ONSTACK};
+    const int crashes[] = {SIGSEGV, SIGBUS, SIGILL, SIGFPE, SIGABRT};
+    int bad = sigaltstack(&own, NULL);
+    for (size_t i = 0; i < sizeof crashes / sizeof crashes[0]; i++)
+        bad |= sigaction(crashes[i], &crash, NULL);
+    bad |= sigaction(SIGALRM, &tick, NULL);
+    struct itimerval each_second = {{1, 0}, {1, 0}};
+    bad |= setitimer(ITIMER_REAL, &each_second, NULL);
+    if (bad) {
+        perror("fuzz: signals");
+        exit(2);
+    }
+}
+
+static void must(int holds, const char *otherwise)
+{
+    if (!holds)
+        fault(otherwise);
+}
+
+/* ---- The three calls, each with what the header says of every answer ---- */
+
+struct net {
+    size_t len;
+    uint8_t bytes[MOST_NET];
+};
+
+/* The results are those of the header, in its order. */
+struct answer {
+    uint64_t refusal;
+    uint64_t results[4];
+};
+
+enum { NODES, STAGES, LAYERS };             /* of vorphiel_check */
+enum { COST, SLACK, GRAIN_EXPONENT, FLOOR }; /* of vorphiel_plan; the first two also of vorphiel_judge */
+
+/* How often each call answered with each number. */
+static uint64_t met[CALLS][13];
+
+/* Bit n: the call may answer n. */
+static const unsigned ALLOWED[] = {0x007F, 0x01FF, 0x1E7F};
+
+/* What stands in tables, plan buffers and results before a call; no word of it is 0. */
+static uint64_t rubbish[MOST_TABLE + 64];
+
+static const void *some_rubbish(void)
+{
+    return rubbish + below(64);
+}
+
+static void begin(int call, const struct net *net)
+{
+    lend(&lent[NET], net->bytes, net->len);
+    protect(&lent[NET], PROT_READ);
+    for (int i = RESULTS; i < LENT; i++)
+        lend(&lent[i], some_rubbish(), sizeof(uint64_t));
+    now.call = call;
+    now.number++;
+    now.under_way = 1;
+}
+
+static void *result(int number)
+{
+    return lent[RESULTS + number].at;
+}
+
+static struct answer finish(unsigned refusal, int results)
+{
+    struct answer answer = {.refusal = refusal};
+    now.under_way = 0;
+    protect(&lent[NET], PROT_READ | PROT_WRITE);
+    must(refusal <= 12 && (ALLOWED[now.call] >> refusal & 1), "a refusal number that the call does not have");
+    met[now.call][refusal]++;
+    must(margins_kept(&lent[NET]), "bytes beside the net were changed");
+    for (int i = 0; i < results; i++) {
+        memcpy(&answer.results[i], result(i), sizeof(uint64_t));
+        must(margins_kept(&lent[RESULTS + i]), "bytes beside a result were changed");
+        must(refusal == 0 || answer.results[i] == 0, "a result that is not 0 after a refusal");
+    }
+    return answer;
+}
+
+static struct answer check(const struct net *net)
+{
+    now.shared = 0;
+    begin(CHECK, net);
+    struct answer answer = finish(vorphiel_check(lent[NET].at, lent[NET].len, result(NODES), result(STAGES), result(LAYERS)), 3);
+    if (answer.refusal == 0) {
+        must(answer.results[NODES] >= 2 && answer.results[NODES] <= MOST_NODES, "a number of nodes that no net has");
+        must(answer.results[STAGES] >= 1 && answer.results[STAGES] <= MOST_STAGES, "a number of stages that no net has");
+        must(answer.results[LAYERS] >= 1 && answer.results[LAYERS] <= MOST_LAYERS, "a number of layers that no net has");
+    }
+    return answer;
+}
+
+static struct answer judge(const struct net *net, const uint8_t *plan, size_t len)
+{
+    lend(&lent[PLAN], plan, len);
+    protect(&lent[PLAN], PROT_READ);
+    begin(JUDGE, net);
+    unsigned refusal = vorphiel_judge(lent[NET].at, lent[NET].len, lent[PLAN].at, lent[PLAN].len, result(COST), result(SLACK));
+    struct answer answer = finish(refusal, 2);
+    protect(&lent[PLAN], PROT_READ | PROT_WRITE);
+    must(margins_kept(&lent[PLAN]), "bytes beside the plan were changed");
+    return answer;
+}
+
+/* What is asked of vorphiel_plan. */
+struct asked {
+    uint64_t p, q;
+    size_t entries, buffer;
+};
+
+/* Whether the table is as the header says: all zero after 0 and 12, unchanged after the rest. */
+static int table_right(unsigned refusal, const void *before)
+{
+    const struct lent *l = &lent[TABLE];
+    if (refusal != 0 && refusal != 12)
+        return memcmp(l->at, before, l->len) == 0;
+    return all_are(l->at, l->len, 0);
+}
+
+/* Plans a net of s stages (0 if it cannot be read); the plan found goes to `plan`. */
+static struct answer plan_net(const struct net *net, size_t s, struct asked asked, uint8_t *plan)
+{
+    const void *table_before = some_rubbish();
+    const uint8_t *buffer_before = some_rubbish();
+    lend(&lent[TABLE], table_before, asked.entries * sizeof(int64_t));
+    lend(&lent[PLAN], buffer_before, asked.buffer);
+    now.shared = 1;
+    now.p = asked.p;
+    now.q = asked.q;
+    begin(PLANNING, net);
+    unsigned refusal = vorphiel_plan(lent[NET].at, lent[NET].len, asked.p, asked.q, (int64_t *)(void *)lent[TABLE].at, asked.entries, lent[PLAN].at,
+                                     asked.buffer, result(COST), result(SLACK), result(GRAIN_EXPONENT), result(FLOOR));
+    struct answer answer = finish(refusal, 4);
+    must(margins_kept(&lent[TABLE]), "bytes beside the table were changed");
+    must(margins_kept(&lent[PLAN]), "bytes beside the plan buffer were changed");
+    must(table_right(refusal, table_before), "the table is not as it is to be after this answer");
+    size_t written = refusal == 0 ? s : 0;
+    must(written <= asked.buffer, "accepted with a plan buffer that is too short");
+    must(memcmp(lent[PLAN].at + written, buffer_before + written, asked.buffer - written) == 0, "bytes of the plan buffer beyond the plan were changed");
+    memcpy(plan, lent[PLAN].at, written);
+    return answer;
+}
+
+/* ---- Nets as bytes: fields and the numbers in them ---- */
+
+/* Where the fields of a net begin, as far as their heads and payloads are there; at[count] is where the last one ends. */
+struct fields {
+    size_t count;
+    size_t at[MOST_FIELDS + 1];
+};
+
+static void find_fields(const struct net *net, struct fields *found)
+{
+    size_t at = 0;
+    found->count = 0;
+    found->at[0] = 0;
+    while (found->count < MOST_FIELDS && net->len - at >= 3) {
+        size_t len = 3 + 256 * (size_t)net->bytes[at + 1] + net->bytes[at + 2];
+        if (net->len - at < len)
+            break;
+        at += len;
+        found->at[++found->count] = at;
+    }
+}
+
+/* The number of layers by the length of the first field. */
+static size_t layer_count(const struct net *net)
+{
+    return net->len < 3 ? 0 : (256 * (size_t)net->bytes[1] + net->bytes[2]) / 4;
+}
+
+/* What a payload holds, by tag: u unit value, g gate resistance or input capacitance, i intrinsic delay, t time, p parent, l length, c cost. A capital: once for
+ * each layer. */
+static const char *const LAYOUTS[] = {"", "UU", "git", "plC", "plCggi", "plCgt"};
+
+struct place {
+    char what;
+    size_t at, width;
+    int64_t low, high;
+};
+
+/* A place for the node of this number; only a parent's range depends on it. */
+static struct place place_for(char what, size_t number)
+{
+    const int64_t time = 1000000000000000;
+    switch (what) {
+    case 'u': return (struct place){what, 0, 2, 1, 1000};
+    case 'g': return (struct place){what, 0, 4, 0, 100000};
+    case 'i': return (struct place){what, 0, 4, 0, 1000000000};
+    case 't': return (struct place){what, 0, 8, -time, time};
+    case 'p': return (struct place){what, 0, 2, 0, number == 0 ? 0 : (int64_t)number - 1};
+    case 'l': return (struct place){what, 0, 2, 0, 1000};
+    default: return (struct place){'c', 0, 4, 1, 1000000};
+    }
+}
+
+/* The numbers of the field at `start`, as far as they lie before `end`: how many. Field 0 holds layers, field 1 the driver, field n + 1 node n. */
+static size_t find_places(const struct net *net, size_t start, size_t end, size_t field, struct place *places)
+{
+    size_t at = start + 3, count = 0, tag = net->bytes[start];
+    for (const char *next = tag < 6 ? LAYOUTS[tag] : ""; *next != '\0'; next++) {
+        int each_layer = *next == 'U' || *next == 'C';
+        struct place place = place_for(each_layer ? *next + 'a' - 'A' : *next, field == 0 ? 0 : field - 1);
+        for (size_t times = each_layer ? layer_count(net) : 1; times > 0 && at + place.width <= end && count < MOST_PLACES; times--) {
+            place.at = at;
+            places[count++] = place;
+            at += place.width;
+        }
+    }
+    return count;
+}
+
+static uint64_t read_number(const struct net *net, const struct place *place)
+{
+    uint64_t value = 0;
+    for (size_t i = 0; i < place->width; i++)
+        value = value << 8 | net->bytes[place->at + i];
+    return value;
+}
+
+static void write_number(struct net *net, const struct place *place, uint64_t value)
+{
+    for (size_t i = place->width; i > 0; i--, value >>= 8)
+        net->bytes[place->at + i - 1] = (uint8_t)value;
+}
+
+/* ---- Changes to a net ---- */
+
+/* Nets to make others from: those of the files stay, the rest change. */
+static struct net pool[POOL];
+static size_t given, pooled;
+
+/* Of two, mostly the shorter one: short nets are tried quickly. */
+static const struct net *some_net(void)
+{
+    const struct net *one = &pool[below(pooled)], *other = &pool[below(pooled)];
+    return (one->len < other->len) != one_in(6) ? one : other;
+}
+
+static void copy_net(struct net *to, const struct net *from)
+{
+    to->len = from->len;
+    memcpy(to->bytes, from->bytes, from->len);
+}
+
+/* Puts other bytes in the place of some of a net's; a net that would be too long stays as it is. */
+static void replace(struct net *net, size_t at, size_t old, const uint8_t *bytes, size_t len)
+{
+    static uint8_t copy[MOST_NET];
+    if (len > MOST_NET || net->len - old + len > MOST_NET)
+        return;
+    memcpy(copy, bytes, len);
+    memmove(net->bytes + at + len, net->bytes + at + old, net->len - at - old);
+    memcpy(net->bytes + at, copy, len);
+    net->len = net->len - old + len;
+}
+
+/* A value for a place that is in its range: any, small, or one of the ends. */
+static uint64_t good_value(const struct place *place)
+{
+    switch (below(6)) {
+    case 0: return (uint64_t)place->low;
+    case 1: return (uint64_t)place->high;
+    case 2:
+    case 3: return (uint64_t)between(place->low, place->high);
+    default: return (uint64_t)(place->low < 0 ? between(-50, 5000) : between(place->low, place->high < 40 ? place->high : 40));
+    }
+}
+
+/* One that often is not: just outside, a neighbour of the old one, any bits. */
+static uint64_t odd_value(const struct place *place, uint64_t old)
+{
+    switch (below(6)) {
+    case 0: return (uint64_t)place->low - 1;
+    case 1: return (uint64_t)place->high + 1;
+    case 2: return old + 1;
+    case 3: return old - 1;
+    case 4: return UINT64_C(1) << (8 * place->width - 1);
+    default: return any();
+    }
+}
+
+/* Another number somewhere. */
+static void change_number(struct net *net, int odd)
+{
+    struct fields fields;
+    struct place places[MOST_PLACES];
+    find_fields(net, &fields);
+    if (fields.count == 0)
+        return;
+    size_t field = below(fields.count);
+    size_t count = find_places(net, fields.at[field], fields.at[field + 1], field, places);
+    if (count == 0)
+        return;
+    const struct place *place = &places[below(count)];
+    write_number(net, place, odd ? odd_value(place, read_number(net, place)) : good_value(place));
+}
+
+/* A field left out, doubled, moved, or the fields from it on taken from another net. */
+static void change_fields(struct net *net)
+{
+    struct fields fields;
+    find_fields(net, &fields);
+    if (fields.count < 3)
+        return;
+    size_t one = 2 + below(fields.count - 2), other = 2 + below(fields.count - 2);
+    size_t at = fields.at[one], len = fields.at[one + 1] - at, to = fields.at[other];
+    switch (below(4)) {
+    case 0:
+        replace(net, at, len, net->bytes, 0);
+        break;
+    case 1:
+        replace(net, to, 0, net->bytes + at, len);
+        break;
+    case 2:
+        replace(net, to, fields.at[other + 1] - to, net->bytes + at, len);
+        break;
+    default: {
+        const struct net *from = some_net();
+        struct fields theirs;
+        find_fields(from, &theirs);
+        size_t start = theirs.at[below(theirs.count + 1)];
+        replace(net, at, net->len - at, from->bytes + start, from->len - start);
+    }
+    }
+}
+
+/* Another tag or length in a head. */
+static void change_head(struct net *net)
+{
+    struct fields fields;
+    find_fields(net, &fields);
+    size_t at = fields.at[below(fields.count + 1)];
+    if (net->len - at < 3)
+        return;
+    if (one_in(2))
+        net->bytes[at] = (uint8_t)(one_in(8) ? any() : below(7));
+    else if (one_in(8))
+        net->bytes[at + 1] = (uint8_t)any();
+    else
+        net->bytes[at + 2] = (uint8_t)(net->bytes[at + 2] + (one_in(2) ? 4 : 1) * between(-3, 3));
+}
+
+/* Bytes changed, cut off, put in or put behind, without regard to fields. */
+static void change_bytes(struct net *net)
+{
+    size_t at = below(net->len + 1), some = margin(net->len - at);
+    switch (below(6)) {
+    case 0:
+        net->len = at;
+        break;
+    case 1:
+        replace(net, at, 0, some_rubbish(), below(40));
+        break;
+    case 2:
+        replace(net, net->len, 0, some_rubbish(), 1 + below(4));
+        break;
+    case 3:
+        replace(net, at, below(some + 1), net->bytes, 0);
+        break;
+    default:
+        if (at < net->len)
+            net->bytes[at] = (uint8_t)(one_in(3) ? any() : net->bytes[at] ^ 1u << below(8));
+    }
+}
+
+/* ---- Nets grown from nothing ---- */
+
+/* A net that grows: for each node its number of children, and 2 for a sink, which has none and takes none. At most 250 nodes get a sink each. */
+struct growing {
+    struct net *net;
+    size_t layers, nodes, buffers;
+    uint8_t children[2 * MOST_NODES];
+    int64_t scale; /* the largest of most numbers */
+    int timely;    /* required times are late */
+};
+
+static uint64_t grown_value(const struct growing *g, const struct place *place, size_t parent)
+{
+    if (place->what == 'p')
+        return parent;
+    if (place->what == 't')
+        return (uint64_t)(g->timely ? place->high : between(-g->scale, g->scale * 1000));
+    return (uint64_t)between(place->low, place->high < g->scale ? place->high : g->scale);
+}
+
+/* Adds a field of the right length with numbers in their ranges. */
+static void add_field(struct growing *g, unsigned tag, size_t parent)
+{
+    static const uint8_t zeros[128];
+    struct place places[MOST_PLACES];
+    const size_t lengths[] = {0, 4 * g->layers, 16, 4 + 4 * g->layers, 16 + 4 * g->layers, 16 + 4 * g->layers};
+    size_t start = g->net->len;
+    const uint8_t head[] = {(uint8_t)tag, 0, (uint8_t)lengths[tag]};
+    replace(g->net, start, 0, head, sizeof head);
+    replace(g->net, g->net->len, 0, zeros, lengths[tag]);
+    size_t count = find_places(g->net, start, g->net->len, 0, places);
+    for (size_t i = 0; i < count; i++)
+        write_number(g->net, &places[i], grown_value(g, &places[i], parent));
+    if (tag == 2)
+        write_number(g->net, &places[2], (uint64_t)between(-g->scale, g->scale));
+}
+
+static void add_node(struct growing *g, unsigned tag, size_t parent)
+{
+    add_field(g, tag, parent);
+    g->children[parent]++;
+    g->children[++g->nodes] = tag == 5 ? 2 : 0;
+    g->buffers += tag == 4;
+}
+
+/* A random tree: nodes are hung where there is room, then every node that has no child gets a sink. Now and then a limit is passed. */
+static void grow_net(struct net *net)
+{
+    struct growing g = {.net = net, .layers = 1 + below(one_in(4) ? MOST_LAYERS : 4), .scale = one_in(4) ? between(1, 1000000) : between(1, 30)};
+    size_t wanted = 1 + below(one_in(40) ? 250 : 14);
+    g.timely = one_in(3);
+    net->len = 0;
+    add_field(&g, 1, 0);
+    add_field(&g, 2, 0);
+    for (size_t tries = 0; g.nodes < wanted && tries < 4 * wanted; tries++) {
+        size_t parent = one_in(3) ? g.nodes : below(g.nodes + 1);
+        unsigned tag = g.buffers < 63 || one_in(8) ? 3 + (unsigned)below(3) : 3;
+        if (g.children[parent] < 2)
+            add_node(&g, tag, parent);
+    }
+    size_t last = g.nodes;
+    for (size_t number = 0; number <= last; number++)
+        if (g.children[number] == 0)
+            add_node(&g, 5, number);
+}
+
+/* A net to try: one of the pool or a grown one, with some changes; or no net at all. */
+static void make_net(struct net *net)
+{
+    if (one_in(60)) {
+        net->len = 0;
+        replace(net, 0, 0, some_rubbish(), below(100));
+    } else if (one_in(4)) {
+        grow_net(net);
+    } else {
+        copy_net(net, some_net());
+    }
+    for (size_t times = below(4); times > 0; times--)
+        change_number(net, 0);
+    if (one_in(5))
+        change_fields(net);
+    if (one_in(8))
+        change_number(net, 1);
+    if (one_in(12))
+        change_head(net);
+    if (one_in(12))
+        change_bytes(net);
+}
+
+/* ---- One net: all calls, and what they say of each other ---- */
+
+static uint64_t nets, readable, planned;
+
+/* A plan that is mostly of the right length with layers that the net has. */
+static size_t make_plan(size_t s, size_t layers, uint8_t *plan)
+{
+    size_t len = one_in(8) ? below(MOST_PLAN) : s;
+    size_t most = layers == 0 ? 1 : layers;
+    size_t same = below(most);
+    int alike = one_in(3);
+    for (size_t i = 0; i < len; i++)
+        plan[i] = (uint8_t)(alike ? same : below(most));
+    if (len > 0 && one_in(8))
+        plan[below(len)] = (uint8_t)(one_in(2) ? most : any());
+    return len;
+}
+
+/* The number that judging is to give, for all that the header says. */
+static uint64_t judging_refusal(const struct answer *counts, const uint8_t *plan, size_t len)
+{
+    if (counts->refusal != 0)
+        return counts->refusal;
+    if (len != counts->results[STAGES])
+        return 7;
+    for (size_t i = 0; i < len; i++)
+        if (plan[i] >= counts->results[LAYERS])
+            return 8;
+    return 0;
+}
+
+/* Judges a plan, and sees that the refusal is right. */
+static struct answer judge_rightly(const struct net *net, const struct answer *counts, const uint8_t *plan, size_t len)
+{
+    struct answer judged = judge(net, plan, len);
+    must(judged.refusal == judging_refusal(counts, plan, len), "vorphiel_judge: not the refusal that is due");
+    return judged;
+}
+
+/* Moves the arrival time so that a plan of the net is just in time, or a tick late or early: what decides is close then. A later arrival takes as much off the
+ * slack, which judging must confirm. */
+static void tighten(struct net *net, const struct answer *counts)
+{
+    uint8_t plan[MOST_STAGES];
+    struct fields fields;
+    struct place places[MOST_PLACES];
+    for (size_t i = 0; i < counts->results[STAGES]; i++)
+        plan[i] = (uint8_t)below(counts->results[LAYERS]);
+    struct answer judged = judge_rightly(net, counts, plan, counts->results[STAGES]);
+    find_fields(net, &fields);
+    find_places(net, fields.at[1], fields.at[2], 1, places);
+    int64_t wanted = one_in(2) ? 0 : between(-1, 1);
+    int64_t arrival = (int64_t)read_number(net, &places[2]) + (int64_t)judged.results[SLACK] - wanted;
+    if (arrival < places[2].low || arrival > places[2].high)
+        return;
+    write_number(net, &places[2], (uint64_t)arrival);
+    struct answer again = judge_rightly(net, counts, plan, counts->results[STAGES]);
+    must(again.results[COST] == judged.results[COST] && (int64_t)again.results[SLACK] == wanted, "another arrival time does not move the slack as it should");
+}
+
+static uint64_t some_share(uint64_t low)
+{
+    switch (below(8)) {
+    case 0: return low;
+    case 1: return 1;
+    case 2: return MOST_SHARE;
+    case 3: return (uint64_t)between(1, MOST_SHARE);
+    default: return (uint64_t)between(1, 8);
+    }
+}
+
+static uint64_t wild_share(void)
+{
+    switch (below(4)) {
+    case 0: return 0;
+    case 1: return MOST_SHARE + 1;
+    case 2: return UINT64_MAX - below(3);
+    default: return any() >> below(64);
+    }
+}
+
+/* A table length that is never too short (the header's rule), or 0 if there is none or it is too long to be lent here. */
+static size_t enough_entries(size_t s, struct asked asked)
+{
+    if (asked.p < 1 || asked.p > MOST_SHARE || asked.q < 1 || asked.q > MOST_SHARE)
+        return 0;
+    size_t entries = (s + (2 * asked.q * s + asked.p - 1) / asked.p) * (s + 2);
+    return entries <= MOST_TABLE ? entries : 0;
+}
+
+static size_t some_entries(size_t s, struct asked asked)
+{
+    switch (below(6)) {
+    case 0: return below(70);
+    case 1: return below(4000);
+    case 2: return below(60) * (s + 2) + below(s + 2);
+    case 3: return 8192;
+    case 4: return enough_entries(s, asked);
+    default: return below(60) * (s + 2);
+    }
+}
+
+static struct asked make_asked(size_t s)
+{
+    struct asked asked = {.p = some_share(0), .q = some_share(1), .buffer = s};
+    if (one_in(12))
+        asked.p = wild_share();
+    if (one_in(12))
+        asked.q = wild_share();
+    asked.entries = some_entries(s, asked);
+    if (one_in(3))
+        asked.buffer = one_in(3) ? below(s + 1) : one_in(2) ? s + below(20) : below(MOST_PLAN);
+    return asked;
+}
+
+/* Whether the number is one that planning may give for all that is known. */
+static int planning_refusal_right(const struct answer *counts, struct asked asked, uint64_t refusal)
+{
+    if (counts->refusal != 0)
+        return refusal == counts->refusal;
+    if (asked.p > MOST_SHARE || asked.q < 1 || asked.q > MOST_SHARE)
+        return refusal == 9;
+    if (asked.buffer < counts->results[STAGES])
+        return refusal == 10;
+    return refusal == 0 || refusal == 11 || refusal == 12;
+}
+
+/* q * cost <= (q + p) * other, whatever the numbers. */
+static int within_share(struct asked asked, uint64_t cost, uint64_t other)
+{
+    return (unsigned __int128)asked.q * cost <= (unsigned __int128)(asked.q + asked.p) * other;
+}
+
+/* Whether the grain g = 2^k can be the scope document's for s stages: the coarsest with q * s * (g - 1) <= p * g * V. What a plan costs rounded to g, times g, is at
+ * most its cost c and at least c - s * (g - 1); so without knowing V, the cost bounds g from above, and the floor shows that 2g is too coarse. */
+static int grain_right(struct asked asked, const struct answer *found, size_t s)
+{
+    uint64_t k = found->results[GRAIN_EXPONENT];
+    if (k > MOST_K)
+        return 0;
+    uint64_t lost = s * ((UINT64_C(1) << k) - 1), lost_next = s * ((UINT64_C(2) << k) - 1);
+    uint64_t floor = found->results[FLOOR], sure = floor < lost_next ? 0 : floor - lost_next;
+    return asked.q * lost <= asked.p * found->results[COST] && (k == MOST_K || asked.q * lost_next > asked.p * sure);
+}
+
+/* What an accepted plan's results must be to another plan of the net: if that one meets timing, the floor is not above its cost. */
+static void hold_against(struct asked asked, const struct answer *found, const struct answer *judged)
+{
+    if (judged->refusal != 0 || (int64_t)judged->results[SLACK] < 0)
+        return;
+    must(found->refusal != 11, "refusal 11, but a plan was judged that meets timing");
+    if (found->refusal != 0)
+        return;
+    must(found->results[FLOOR] <= judged->results[COST], "the floor is above the cost of a plan that meets timing");
+    must(within_share(asked, found->results[COST], judged->results[COST]), "the plan costs more than the share allows over another that meets timing");
+}
+
+/* After acceptance: the plan judged, its cost and floor; a neighbour of the plan, one stage on another layer. */
+static void plan_keeps_promises(const struct net *net, const struct answer *counts, struct asked asked, const struct answer *found, uint8_t *plan)
+{
+    size_t s = counts->results[STAGES];
+    struct answer judged = judge_rightly(net, counts, plan, s);
+    must(judged.refusal == 0, "the plan found is no plan of the net");
+    must(judged.results[COST] == found->results[COST], "the cost is not the one that judging gives");
+    must(judged.results[SLACK] == found->results[SLACK], "the slack is not the one that judging gives");
+    must((int64_t)found->results[SLACK] >= 0, "the plan found misses timing");
+    must(found->results[FLOOR] <= found->results[COST], "the floor is above the cost");
+    must(within_share(asked, found->results[COST], found->results[FLOOR]), "the cost is above the floor by more than the share");
+    must(grain_right(asked, found, s), "the grain is not the one that belongs to this share and cost");
+    uint8_t neighbour[MOST_STAGES];
+    memcpy(neighbour, plan, s);
+    neighbour[below(s)] = (uint8_t)below(counts->results[LAYERS]);
+    judged = judge_rightly(net, counts, neighbour, s);
+    hold_against(asked, found, &judged);
+}
+
+/* After acceptance: a longer table, or one without the entries beyond the last whole column, gives the same. After 12: a table that is never too short is not. */
+static void other_table(const struct net *net, size_t s, struct asked asked, const struct answer *found, const uint8_t *plan)
+{
+    uint8_t again[MOST_STAGES];
+    size_t enough = enough_entries(s, asked);
+    struct asked other = asked;
+    if (found->refusal == 12) {
+        other.entries = enough;
+        must(enough == 0 || plan_net(net, s, other, again).refusal == 0, "a table that is never too short was");
+        return;
+    }
+    other.buffer = s + below(9);
+    if (one_in(3))
+        other.entries -= asked.entries % (s + 2);
+    else
+        other.entries += below(one_in(4) ? MOST_TABLE - asked.entries + 1 : margin(MOST_TABLE - asked.entries) + 1);
+    struct answer second = plan_net(net, s, other, again);
+    must(memcmp(&second, found, sizeof second) == 0, "another answer with a table of as many columns or more");
+    must(memcmp(again, plan, s) == 0, "another plan with a table of as many columns or more");
+}
+
+/* Nets that some plan can meet are kept in the pool. */
+static void keep_net(const struct net *net)
+{
+    if (pooled < POOL)
+        copy_net(&pool[pooled++], net);
+    else if (one_in(6))
+        copy_net(&pool[given + below(POOL - given)], net);
+}
+
+static void try_net(void)
+{
+    static struct net net;
+    uint8_t plan[MOST_PLAN], found_plan[MOST_STAGES];
+    make_net(&net);
+    struct answer counts = check(&net);
+    size_t s = counts.results[STAGES];
+    nets++;
+    readable += counts.refusal == 0;
+    if (counts.refusal == 0 && one_in(3))
+        tighten(&net, &counts);
+    size_t len = make_plan(s, counts.results[LAYERS], plan);
+    struct answer judged = judge_rightly(&net, &counts, plan, len);
+    struct asked asked = make_asked(s);
+    struct answer found = plan_net(&net, s, asked, found_plan);
+    must(planning_refusal_right(&counts, asked, found.refusal), "vorphiel_plan: not the refusal that is due");
+    hold_against(asked, &found, &judged);
+    if (found.refusal == 0) {
+        planned++;
+        plan_keeps_promises(&net, &counts, asked, &found, found_plan);
+    }
+    if (found.refusal == 0 || found.refusal == 12) {
+        other_table(&net, s, asked, &found, found_plan);
+        keep_net(&net);
+    }
+}
+
+/* ---- The run ---- */
+
+static void read_net(const char *name)
+{
+    struct net *net = &pool[pooled];
+    FILE *file = fopen(name, "rb");
+    if (file != NULL)
+        net->len = fread(net->bytes, 1, MOST_NET, file);
+    if (file == NULL || ferror(file)) {
+        fprintf(stderr, "fuzz: %s: %s\n", name, strerror(errno));
+        exit(2);
+    }
+    fclose(file);
+    given = ++pooled;
+}
+
+/* One line for a call: how often it gave each number; how many of its numbers it never gave. */
+static int print_met(int call)
+{
+    int missing = 0;
+    printf("%-14s accepted %" PRIu64 "; refused", CALL_NAMES[call], met[call][0]);
+    for (unsigned number = 0; number <= 12; number++) {
+        if (!(ALLOWED[call] >> number & 1))
+            continue;
+        missing += met[call][number] == 0;
+        if (number > 0)
+            printf("  %u: %" PRIu64, number, met[call][number]);
+    }
+    printf("\n");
+    return missing;
+}
+
+static void print_summary(void)
+{
+    printf("seed %" PRIu64 ": %" PRIu64 " calls on %" PRIu64 " nets; ", now.seed, now.number, nets);
+    printf("%.0f%% of these can be read, %.0f%% were planned\n", 100.0 * (double)readable / (double)nets, 100.0 * (double)planned / (double)nets);
+    int missing = 0;
+    for (int call = 0; call < CALLS; call++)
+        missing += print_met(call);
+    if (missing == 0)
+        printf("every number of every call was met\n");
+    else
+        printf("%d numbers were never met\n", missing);
+}
+
+static int is_number(const char *text, uint64_t *value)
+{
+    errno = 0;
+    *value = strtoull(text, NULL, 10);
+    return text[0] != '\0' && text[strspn(text, "0123456789")] == '\0' && errno == 0;
+}
+
+int main(int count, char **arguments)
+{
+    uint64_t length;
+    if (count < 4 || count - 3 >= POOL || !is_number(arguments[1], &now.seed) || !is_number(arguments[2], &length)) {
+        fputs("usage: fuzz SEED SECONDS NET...\n", stderr);
+        return 2;
+    }
+    random_state = now.seed;
+    for (size_t i = 0; i < sizeof rubbish / sizeof rubbish[0]; i++)
+        rubbish[i] = any() | 1;
+    for (int i = 3; i < count; i++)
+        read_net(arguments[i]);
+    make_all_lent();
+    set_signals();
+    do
+        try_net();
+    while ((uint64_t)seconds < length);
+    print_summary();
+    return 0;
+}
