@@ -1,0 +1,214 @@
+//! Nets at the limits, in several shapes, with required times from tight to loose. The same nets every time.
+
+use crate::library::Refusal;
+use crate::peer;
+use vorphiel_tests::nets::{Draft, Kind, Node, Random};
+
+/// A net to be measured.
+pub struct Case {
+    pub name: String,
+    pub bytes: Vec<u8>,
+    pub stages: usize,
+}
+
+/// How the nodes of a net hang together.
+#[derive(Clone, Copy)]
+pub enum Shape {
+    /// Each stage drives the next.
+    Chain,
+    /// Each stage drives two.
+    Balanced,
+    /// The driver's stage drives all others.
+    Wide,
+    /// Each stage hangs from any earlier one that has room.
+    Free,
+}
+
+/// Where the common required time of all sinks lies between that of the fastest plan and that of layer 0 throughout.
+#[derive(Clone, Copy)]
+pub enum Times {
+    Tight,
+    Middle,
+    Loose,
+}
+
+/// A net's size: nodes after the driver, stages, layers.
+#[derive(Clone, Copy)]
+pub struct Size {
+    pub nodes: usize,
+    pub stages: usize,
+    pub layers: usize,
+}
+
+pub const LIMITS: Size = Size { nodes: 255, stages: 64, layers: 16 };
+
+/// The nets at the limits that the table lists.
+pub fn at_the_limits() -> Vec<Case> {
+    let one_stage = Size { stages: 1, ..LIMITS };
+    let shapes = [
+        ("long chain", Shape::Chain, LIMITS),
+        ("balanced tree", Shape::Balanced, LIMITS),
+        ("wide stage", Shape::Wide, LIMITS),
+        ("free tree", Shape::Free, LIMITS),
+        ("one stage", Shape::Free, one_stage),
+        ("few layers", Shape::Free, Size { layers: 3, ..LIMITS }),
+    ];
+    let times = [("tight", Times::Tight), ("middle", Times::Middle), ("loose", Times::Loose)];
+    let mut cases = vec![];
+    for (shape_name, shape, size) in shapes {
+        for (times_name, times) in times {
+            cases.push(case(&format!("{shape_name}, {times_name}"), shape, size, times));
+        }
+    }
+    cases
+}
+
+pub fn case(name: &str, shape: Shape, size: Size, times: Times) -> Case {
+    let mut random = Random::new(7);
+    let mut draft = grown(shape, size, &mut random);
+    set_times(&mut draft, times);
+    Case { name: String::from(name), bytes: draft.bytes(), stages: size.stages }
+}
+
+// ------------------------------------------------------------------------------------------------
+// The tree
+// ------------------------------------------------------------------------------------------------
+
+/// A higher layer has less resistance and costs more.
+fn unit_resistance(layer: usize) -> i64 {
+    (900.0 * 0.8f64.powi(layer as i32)) as i64 + 1
+}
+
+fn price(layer: usize) -> i64 {
+    (4.0 * 1.2f64.powi(layer as i32)) as i64
+}
+
+struct Growing<'a> {
+    nodes: Vec<Node>,
+    children: Vec<usize>,
+    layers: usize,
+    random: &'a mut Random,
+}
+
+impl Growing<'_> {
+    fn hang(&mut self, parent: usize, kind: Kind) -> usize {
+        let length = self.random.between(1, 20);
+        let costs = (0..self.layers).map(|layer| length * price(layer)).collect();
+        self.nodes.push(Node { parent, length, costs, kind });
+        self.children[parent] += 1;
+        self.children.push(0);
+        self.nodes.len()
+    }
+
+    fn buffer(&mut self, parent: usize) -> usize {
+        let kind = Kind::Buffer {
+            capacitance: self.random.between(20, 200),
+            resistance: self.random.between(20, 400),
+            intrinsic: self.random.between(1_000, 50_000),
+        };
+        self.hang(parent, kind)
+    }
+
+    fn sink(&mut self, parent: usize) -> usize {
+        let capacitance = self.random.between(20, 400);
+        self.hang(parent, Kind::Sink { capacitance, required: 0 })
+    }
+
+    /// A node with room for a child, from `first` on.
+    fn with_room(&mut self, first: usize) -> usize {
+        loop {
+            let node = first + self.random.below(self.children.len() - first);
+            let is_sink = node > 0 && matches!(self.nodes[node - 1].kind, Kind::Sink { .. });
+            if self.children[node] < 2 && !is_sink {
+                return node;
+            }
+        }
+    }
+}
+
+/// Buffers by the shape, then sinks below what is childless, then Steiner points until the nodes are as many as asked.
+fn grown(shape: Shape, size: Size, random: &mut Random) -> Draft {
+    let layers: Vec<(i64, i64)> = (0..size.layers).map(|layer| (unit_resistance(layer), 10 + layer as i64)).collect();
+    let mut tree = Growing { nodes: vec![], children: vec![0], layers: layers.len(), random };
+    let mut ends = vec![0];
+    for stage in 1..size.stages {
+        let parent = match shape {
+            Shape::Chain => stage - 1,
+            Shape::Balanced => (stage - 1) / 2,
+            Shape::Free => tree.with_room(0),
+            Shape::Wide if stage + 1 < size.stages => {
+                ends.push(tree.hang(ends[ends.len() - 1], Kind::Steiner));
+                ends[ends.len() - 1]
+            }
+            Shape::Wide => ends[ends.len() - 1],
+        };
+        tree.buffer(parent);
+    }
+    for node in 0..tree.children.len() {
+        if tree.children[node] == 0 {
+            tree.sink(node);
+        }
+    }
+    while tree.nodes.len() + 1 < size.nodes && size.stages < 64 {
+        let parent = tree.with_room(0);
+        let point = tree.hang(parent, Kind::Steiner);
+        tree.sink(point);
+    }
+    let mut nodes = tree.nodes;
+    lengthen(&mut nodes, size.nodes, tree.random);
+    Draft { layers, resistance: 100, intrinsic: 10_000, arrival: 0, nodes }
+}
+
+/// Puts Steiner points into edges until there are `wanted` nodes.
+fn lengthen(nodes: &mut Vec<Node>, wanted: usize, random: &mut Random) {
+    while nodes.len() < wanted {
+        let place = random.below(nodes.len());
+        for node in nodes.iter_mut() {
+            node.parent += (node.parent > place) as usize;
+        }
+        let point = Node { kind: Kind::Steiner, ..nodes[place].clone() };
+        nodes[place].parent = place + 1;
+        nodes.insert(place, point);
+    }
+}
+
+// ------------------------------------------------------------------------------------------------
+// Required times
+// ------------------------------------------------------------------------------------------------
+
+fn require(draft: &mut Draft, time: i64) {
+    for node in &mut draft.nodes {
+        if let Kind::Sink { required, .. } = &mut node.kind {
+            *required = time;
+        }
+    }
+}
+
+/// The earliest common required time that some plan meets, by halving.
+fn fastest(draft: &mut Draft, slowest: i64) -> i64 {
+    let (mut low, mut high) = (0, slowest);
+    while low < high {
+        let middle = (low + high) / 2;
+        require(draft, middle);
+        // No table: 12 if some plan meets timing, else 11.
+        match peer::plan(&draft.bytes(), 1, 1, &mut [], &mut [0; 64]) {
+            Err(Refusal(12)) => high = middle,
+            Err(Refusal(11)) => low = middle + 1,
+            other => unreachable!("{other:?}"),
+        }
+    }
+    low
+}
+
+fn set_times(draft: &mut Draft, times: Times) {
+    let stages = 1 + draft.nodes.iter().filter(|node| matches!(node.kind, Kind::Buffer { .. })).count();
+    let on_layer_0 = peer::judge(&draft.bytes(), &vec![0; stages]).expect("a whole net");
+    let slowest = -on_layer_0.slack;
+    let fastest = fastest(draft, slowest);
+    let part = match times {
+        Times::Tight => 5,
+        Times::Middle => 40,
+        Times::Loose => 100,
+    };
+    require(draft, fastest + (slowest - fastest) * part / 100);
+}

@@ -1,0 +1,64 @@
+//! The library's speed beside the peer's: the same method, written in plain Rust and compiled with optimization.
+//!
+//!     vorphiel-bench          prints the tables of docs/SPEED.md
+//!     vorphiel-bench --once   each measured call once, for callgrind
+
+mod families;
+#[allow(dead_code)]
+#[path = "../../hosts/plan_file.rs"]
+mod host;
+mod measure;
+mod peer;
+mod report;
+
+use families::{Case, Shape, Size, Times, LIMITS};
+use host::vorphiel as library;
+use measure::{Call, Job};
+
+/// The shares of the table.
+const SHARES: [(u64, u64); 4] = [(1, 1), (1, 4), (1, 10), (1, 100)];
+
+/// The calls that are measured on each net at the limits.
+fn calls() -> Vec<Call> {
+    let plans = SHARES.map(|(p, q)| Call::Plan { p, q });
+    [vec![Call::Check, Call::Judge], plans.to_vec()].concat()
+}
+
+/// The nets of which one size grows: what grows, to which size, and the share.
+fn growing() -> Vec<(&'static str, usize, Case, Call)> {
+    let net = |size| families::case("", Shape::Free, size, Times::Tight);
+    let quarter = Call::Plan { p: 1, q: 4 };
+    let mut rows = vec![];
+    for q in [1, 2, 4, 8, 16, 32, 64, 128] {
+        rows.push(("q/p", q, net(LIMITS), Call::Plan { p: 1, q: q as u64 }));
+    }
+    for stages in [4, 8, 16, 32, 64] {
+        rows.push(("stages", stages, net(Size { stages, nodes: 4 * stages - 1, ..LIMITS }), quarter));
+    }
+    for layers in [1, 2, 4, 8, 16] {
+        rows.push(("layers", layers, net(Size { layers, ..LIMITS }), quarter));
+    }
+    rows
+}
+
+fn main() {
+    let (cases, growing, calls) = (families::at_the_limits(), growing(), calls());
+    let at_limits = cases.iter().flat_map(|case| calls.iter().map(move |&call| Job::new(case, call)));
+    let mut jobs: Vec<Job> = at_limits.collect();
+    jobs.extend(growing.iter().map(|(_, _, case, call)| Job::new(case, *call)));
+    if std::env::args().any(|argument| argument == "--once") {
+        measure::run_once(&mut jobs);
+        return;
+    }
+    for job in &mut jobs {
+        assert_eq!(job.answer(&measure::LIBRARY), job.answer(&measure::PEER), "the peer answers otherwise");
+    }
+    let counted = measure::instructions(jobs.len());
+    let timed: Vec<_> = jobs.iter_mut().map(Job::times).collect();
+    let measured: Vec<_> =
+        (0..jobs.len()).map(|job| (counted.as_ref().map(|counted| counted[job]), timed[job])).collect();
+    let (limits, grown) = measured.split_at(cases.len() * calls.len());
+    report::ratios(&cases, &calls, limits);
+    report::growth(&growing, grown);
+    report::excess(&cases, &SHARES);
+}

@@ -1,0 +1,134 @@
+//! One call of one side, measured: its instructions by callgrind, its time by the clock.
+
+use crate::families::Case;
+use crate::library::{self, Counts, Judged, Planned, Refusal};
+use crate::peer;
+use std::path::Path;
+use std::process::Command;
+use std::time::{Duration, Instant};
+
+/// The three calls of an implementation.
+pub struct Side {
+    check: fn(&[u8]) -> Result<Counts, Refusal>,
+    judge: fn(&[u8], &[u8]) -> Result<Judged, Refusal>,
+    plan: fn(&[u8], u64, u64, &mut [i64], &mut [u8]) -> Result<Planned, Refusal>,
+}
+
+pub const LIBRARY: Side = Side { check: library::check, judge: library::judge, plan: library::plan };
+pub const PEER: Side = Side { check: peer::check, judge: peer::judge, plan: peer::plan };
+
+#[derive(Clone, Copy, PartialEq)]
+pub enum Call {
+    Check,
+    /// Of the plan for share 1/4.
+    Judge,
+    Plan {
+        p: u64,
+        q: u64,
+    },
+}
+
+/// A call on a net with the room it is lent.
+pub struct Job<'a> {
+    net: &'a [u8],
+    call: Call,
+    table: Vec<i64>,
+    plan: Vec<u8>,
+}
+
+#[derive(Debug, PartialEq)]
+pub enum Answer {
+    Checked(Result<Counts, Refusal>),
+    Judged(Result<Judged, Refusal>),
+    Planned(Result<Planned, Refusal>, Vec<u8>),
+}
+
+impl<'a> Job<'a> {
+    /// The table is as long as is never too short for the share.
+    pub fn new(case: &'a Case, call: Call) -> Job<'a> {
+        let (p, q) = if let Call::Plan { p, q } = call { (p, q) } else { (1, 4) };
+        let entries = library::enough_entries(case.stages as u64, p, q).expect("a share above 0");
+        let mut job = Job { net: &case.bytes, call, table: vec![0; entries], plan: vec![0; case.stages] };
+        if call == Call::Judge {
+            library::plan(job.net, p, q, &mut job.table, &mut job.plan).expect("a net that can be planned");
+        }
+        job
+    }
+
+    /// The call. Only this is counted and timed.
+    fn run(&mut self, side: &Side) -> Answer {
+        match self.call {
+            Call::Check => Answer::Checked((side.check)(self.net)),
+            Call::Judge => Answer::Judged((side.judge)(self.net, &self.plan)),
+            Call::Plan { p, q } => {
+                Answer::Planned((side.plan)(self.net, p, q, &mut self.table, &mut self.plan), vec![])
+            }
+        }
+    }
+
+    /// What the call answers.
+    pub fn answer(&mut self, side: &Side) -> Answer {
+        match self.run(side) {
+            Answer::Planned(answer, _) => Answer::Planned(answer, self.plan.clone()),
+            other => other,
+        }
+    }
+
+    /// The shortest time of several calls of each side, made in turn.
+    pub fn times(&mut self) -> [Duration; 2] {
+        let mut least = [Duration::MAX; 2];
+        let begin = Instant::now();
+        while begin.elapsed() < Duration::from_millis(60) {
+            for (side, least) in [LIBRARY, PEER].iter().zip(&mut least) {
+                let start = Instant::now();
+                std::hint::black_box(self.run(side));
+                *least = start.elapsed().min(*least);
+            }
+        }
+        least
+    }
+}
+
+/// Callgrind counts from the beginning of this function to its end.
+#[no_mangle]
+#[inline(never)]
+extern "C" fn measured(job: &mut Job, side: &Side) {
+    std::hint::black_box(job.run(side));
+}
+
+/// Each job once on each side, for callgrind.
+pub fn run_once(jobs: &mut [Job]) {
+    for job in jobs {
+        measured(job, &LIBRARY);
+        measured(job, &PEER);
+    }
+}
+
+/// The instructions of each job on each side: this program is run again under callgrind with `--once`, which calls
+/// `run_once` with the same jobs. None where there is no valgrind.
+pub fn instructions(jobs: usize) -> Option<Vec<[u64; 2]>> {
+    let folder = std::env::temp_dir().join(format!("vorphiel-bench-{}", std::process::id()));
+    std::fs::create_dir_all(&folder).expect("a folder for callgrind");
+    let counted = counted_in(&folder, jobs);
+    std::fs::remove_dir_all(&folder).expect("the folder removed");
+    counted
+}
+
+fn counted_in(folder: &Path, jobs: usize) -> Option<Vec<[u64; 2]>> {
+    let own = std::env::current_exe().expect("the name of this program");
+    let out = folder.join("callgrind");
+    let status = Command::new("valgrind")
+        .args(["--quiet", "--tool=callgrind", "--zero-before=measured", "--dump-after=measured"])
+        .arg(format!("--callgrind-out-file={}", out.display()))
+        .arg(own)
+        .arg("--once")
+        .status()
+        .ok()?;
+    assert!(status.success(), "callgrind failed");
+    let total = |number: usize| {
+        let text = std::fs::read_to_string(format!("{}.{number}", out.display())).expect("a dump for each call");
+        let totals = text.lines().find_map(|line| line.strip_prefix("totals: ")).expect("a line of totals");
+        totals.trim().parse().expect("a number of instructions")
+    };
+    Some((0..jobs).map(|job| [total(2 * job + 1), total(2 * job + 2)]).collect())
+}

@@ -1,0 +1,479 @@
+//! The peer: check, judge and plan by the library's method, written in plain Rust with no thought of proof. The
+//! library's instructions and time are held against this.
+//!
+//! The method (source 000's oracle, source 001's merging, section 4.2): each stage's delays and costs on each layer;
+//! for a grain g a row of latest times over budgets for each stage, from the last stage to the first, branches merged
+//! by two pointers; the plan read off the rows; from the largest k down until the share's test holds. A plan that is
+//! known to meet timing bounds V(k), and budgets count what is spent above each stage's least rounded cost.
+
+use crate::library::{Counts, Judged, Planned, Refusal};
+
+const MOST_LAYERS: usize = 16;
+const MOST_NODES: usize = 255;
+const MOST_STAGES: usize = 64;
+const MOST_K: u64 = 28;
+const MOST_SHARE: u64 = 1_000;
+const MOST_TIME: i64 = 1_000_000_000_000_000;
+/// Before every time and after every time that is compared.
+const NEVER: i64 = i64::MIN / 2;
+const NO_LIMIT: i64 = i64::MAX / 2;
+
+// ------------------------------------------------------------------------------------------------
+// Reading
+// ------------------------------------------------------------------------------------------------
+
+#[derive(Clone, Copy)]
+enum Kind {
+    Driver { resistance: u64, intrinsic: u64, arrival: i64 },
+    Steiner,
+    Buffer { capacitance: u64, resistance: u64, intrinsic: u64 },
+    Sink { capacitance: u64, required: i64 },
+}
+
+/// A node with the edge above it; its costs stay in the bytes, from `costs` on.
+#[derive(Clone, Copy)]
+struct Node {
+    kind: Kind,
+    parent: usize,
+    length: u64,
+    costs: usize,
+}
+
+struct Net<'a> {
+    bytes: &'a [u8],
+    layers: Vec<(u64, u64)>,
+    nodes: Vec<Node>,
+    stages: usize,
+}
+
+fn u16_at(bytes: &[u8], at: usize) -> u64 {
+    u16::from_be_bytes(bytes[at..at + 2].try_into().unwrap()) as u64
+}
+
+fn u32_at(bytes: &[u8], at: usize) -> u64 {
+    u32::from_be_bytes(bytes[at..at + 4].try_into().unwrap()) as u64
+}
+
+fn time_at(bytes: &[u8], at: usize) -> i64 {
+    i64::from_be_bytes(bytes[at..at + 8].try_into().unwrap())
+}
+
+fn ranged(good: bool) -> Result<(), Refusal> {
+    if good {
+        Ok(())
+    } else {
+        Err(Refusal(3))
+    }
+}
+
+/// The payload's place and tag of the field at `at`.
+fn field(bytes: &[u8], at: usize, allowed: impl Fn(u8, usize) -> bool) -> Result<(u8, usize, usize), Refusal> {
+    if bytes.len() - at < 3 {
+        return Err(Refusal(1));
+    }
+    let (tag, size) = (bytes[at], u16_at(bytes, at + 1) as usize);
+    if !allowed(tag, size) {
+        return Err(Refusal(2));
+    }
+    if bytes.len() - at - 3 < size {
+        return Err(Refusal(1));
+    }
+    Ok((tag, at + 3, size))
+}
+
+fn read_layers(bytes: &[u8]) -> Result<(Vec<(u64, u64)>, usize), Refusal> {
+    let (_, start, size) = field(bytes, 0, |tag, size| tag == 1 && (4..=64).contains(&size) && size % 4 == 0)?;
+    let mut layers = Vec::with_capacity(MOST_LAYERS);
+    for at in (start..start + size).step_by(4) {
+        let (resistance, capacitance) = (u16_at(bytes, at), u16_at(bytes, at + 2));
+        ranged((1..=1_000).contains(&resistance) && (1..=1_000).contains(&capacitance))?;
+        layers.push((resistance, capacitance));
+    }
+    Ok((layers, start + size))
+}
+
+fn read_driver(bytes: &[u8], at: usize) -> Result<(Node, usize), Refusal> {
+    let (_, start, size) = field(bytes, at, |tag, size| tag == 2 && size == 16)?;
+    let (resistance, intrinsic) = (u32_at(bytes, start), u32_at(bytes, start + 4));
+    let arrival = time_at(bytes, start + 8);
+    ranged(resistance <= 100_000 && intrinsic <= 1_000_000_000 && (-MOST_TIME..=MOST_TIME).contains(&arrival))?;
+    let kind = Kind::Driver { resistance, intrinsic, arrival };
+    Ok((Node { kind, parent: 0, length: 0, costs: 0 }, start + size))
+}
+
+fn read_kind(bytes: &[u8], tag: u8, at: usize) -> Result<Kind, Refusal> {
+    if tag == 3 {
+        return Ok(Kind::Steiner);
+    }
+    let capacitance = u32_at(bytes, at);
+    ranged(capacitance <= 100_000)?;
+    if tag == 4 {
+        let (resistance, intrinsic) = (u32_at(bytes, at + 4), u32_at(bytes, at + 8));
+        ranged(resistance <= 100_000 && intrinsic <= 1_000_000_000)?;
+        return Ok(Kind::Buffer { capacitance, resistance, intrinsic });
+    }
+    let required = time_at(bytes, at + 4);
+    ranged((-MOST_TIME..=MOST_TIME).contains(&required))?;
+    Ok(Kind::Sink { capacitance, required })
+}
+
+fn read(bytes: &[u8]) -> Result<Net<'_>, Refusal> {
+    let (layers, at) = read_layers(bytes)?;
+    let (driver, mut at) = read_driver(bytes, at)?;
+    let shared = 4 + 4 * layers.len();
+    let mut nodes = Vec::with_capacity(MOST_NODES + 1);
+    let mut children = [0u8; MOST_NODES + 1];
+    let mut stages = 1;
+    nodes.push(driver);
+    while at < bytes.len() {
+        let allowed = |tag, size| (tag == 3 && size == shared) || ((tag == 4 || tag == 5) && size == shared + 12);
+        let (tag, start, size) = field(bytes, at, allowed)?;
+        if nodes.len() > MOST_NODES || (tag == 4 && stages == MOST_STAGES) {
+            return Err(Refusal(4));
+        }
+        let (parent, length) = (u16_at(bytes, start) as usize, u16_at(bytes, start + 2));
+        ranged(length <= 1_000)?;
+        let costs = &bytes[start + 4..start + shared];
+        let in_range = |cost: &[u8]| (1..=1_000_000).contains(&u32::from_be_bytes(cost.try_into().unwrap()));
+        ranged(costs.chunks_exact(4).all(in_range))?;
+        let kind = read_kind(bytes, tag, start + shared)?;
+        if parent >= nodes.len() || children[parent] == 2 || matches!(nodes[parent].kind, Kind::Sink { .. }) {
+            return Err(Refusal(5));
+        }
+        children[parent] += 1;
+        stages += (tag == 4) as usize;
+        nodes.push(Node { kind, parent, length, costs: start + 4 });
+        at = start + size;
+    }
+    let childless = |(node, &count): (&Node, &u8)| count == 0 && !matches!(node.kind, Kind::Sink { .. });
+    if nodes.iter().zip(&children).any(childless) {
+        return Err(Refusal(6));
+    }
+    Ok(Net { bytes, layers, nodes, stages })
+}
+
+/// Check.
+pub fn check(bytes: &[u8]) -> Result<Counts, Refusal> {
+    let net = read(bytes)?;
+    Ok(Counts { nodes: net.nodes.len() as u64, stages: net.stages as u64, layers: net.layers.len() as u64 })
+}
+
+// ------------------------------------------------------------------------------------------------
+// Timing and cost
+// ------------------------------------------------------------------------------------------------
+
+type OnLayers<T> = [T; MOST_LAYERS];
+
+/// For each node: the stage of the edge above it, and the stage it drives if it is a root.
+fn stages_of(net: &Net) -> (Vec<usize>, Vec<usize>) {
+    let (mut above, mut driven) = (vec![0; net.nodes.len()], vec![0; net.nodes.len()]);
+    let mut stages = 1;
+    for (number, node) in net.nodes.iter().enumerate().skip(1) {
+        let parent = node.parent;
+        above[number] = if matches!(net.nodes[parent].kind, Kind::Steiner) { above[parent] } else { driven[parent] };
+        if matches!(node.kind, Kind::Buffer { .. }) {
+            driven[number] = stages;
+            stages += 1;
+        }
+    }
+    (above, driven)
+}
+
+/// The load at the lower end of the edge above a node.
+fn lower(node: &Node, below: u64) -> u64 {
+    match node.kind {
+        Kind::Buffer { capacitance, .. } | Kind::Sink { capacitance, .. } => capacitance,
+        _ => below,
+    }
+}
+
+/// The delay of the gate at a root with this load; none for the wire below a Steiner point.
+fn gate(node: &Node, load: u64) -> Option<u64> {
+    match node.kind {
+        Kind::Driver { resistance, intrinsic, .. } | Kind::Buffer { resistance, intrinsic, .. } => {
+            Some(2 * resistance * load + intrinsic)
+        }
+        _ => None,
+    }
+}
+
+fn arrival(net: &Net) -> i64 {
+    match net.nodes[0].kind {
+        Kind::Driver { arrival, .. } => arrival,
+        _ => unreachable!("node 0 is the driver"),
+    }
+}
+
+/// Judge: cost and slack of a plan, each edge on its stage's layer.
+pub fn judge(bytes: &[u8], plan: &[u8]) -> Result<Judged, Refusal> {
+    let net = read(bytes)?;
+    if plan.len() != net.stages {
+        return Err(Refusal(7));
+    }
+    if plan.iter().any(|&layer| layer as usize >= net.layers.len()) {
+        return Err(Refusal(8));
+    }
+    Ok(judged(&net, &stages_of(&net), plan))
+}
+
+fn judged(net: &Net, (above, driven): &(Vec<usize>, Vec<usize>), plan: &[u8]) -> Judged {
+    let count = net.nodes.len();
+    let mut load = [0u64; MOST_NODES + 1];
+    let mut delay = [0u64; MOST_NODES + 1];
+    let mut cost = 0;
+    for number in (1..count).rev() {
+        let node = &net.nodes[number];
+        let layer = plan[above[number]] as usize;
+        load[node.parent] += node.length * net.layers[layer].1 + lower(node, load[number]);
+        cost += u32_at(net.bytes, node.costs + 4 * layer);
+    }
+    for number in 1..count {
+        let node = &net.nodes[number];
+        let (resistance, capacitance) = net.layers[plan[above[number]] as usize];
+        let start = gate(&net.nodes[node.parent], load[node.parent]).unwrap_or(delay[node.parent]);
+        let wire = node.length * capacitance + 2 * lower(node, load[number]);
+        delay[number] = start + node.length * resistance * wire;
+    }
+    let mut required = [NO_LIMIT; MOST_STAGES];
+    for number in (1..count).rev() {
+        let time = match net.nodes[number].kind {
+            Kind::Sink { required, .. } => required,
+            Kind::Buffer { .. } => required[driven[number]],
+            _ => continue,
+        };
+        let at_root = &mut required[above[number]];
+        *at_root = (*at_root).min(time - delay[number] as i64);
+    }
+    Judged { cost, slack: required[0] - arrival(net) }
+}
+
+/// The tree of stages in numbers: what a stage drives, the delay to it, its own limit and its cost on each layer.
+#[derive(Clone)]
+struct Tree {
+    driven: Vec<Vec<usize>>,
+    delay: Vec<OnLayers<i64>>,
+    limit: Vec<OnLayers<i64>>,
+    cost: Vec<OnLayers<u64>>,
+    layers: usize,
+    arrival: i64,
+}
+
+fn loads(net: &Net) -> Vec<OnLayers<u64>> {
+    let mut load = vec![[0; MOST_LAYERS]; net.nodes.len()];
+    for number in (1..net.nodes.len()).rev() {
+        let node = &net.nodes[number];
+        for (layer, unit) in net.layers.iter().enumerate() {
+            load[node.parent][layer] += node.length * unit.1 + lower(node, load[number][layer]);
+        }
+    }
+    load
+}
+
+fn delays(net: &Net) -> Vec<OnLayers<u64>> {
+    let load = loads(net);
+    let mut delay = vec![[0; MOST_LAYERS]; net.nodes.len()];
+    for number in 1..net.nodes.len() {
+        let node = &net.nodes[number];
+        let parent = &net.nodes[node.parent];
+        for (layer, &(resistance, capacitance)) in net.layers.iter().enumerate() {
+            let start = gate(parent, load[node.parent][layer]).unwrap_or(delay[node.parent][layer]);
+            let wire = node.length * capacitance + 2 * lower(node, load[number][layer]);
+            delay[number][layer] = start + node.length * resistance * wire;
+        }
+    }
+    delay
+}
+
+fn tree(net: &Net, (above, below): &(Vec<usize>, Vec<usize>)) -> Tree {
+    let (s, layers) = (net.stages, net.layers.len());
+    let node_delay = delays(net);
+    let mut driven = vec![vec![]; s];
+    let mut delay = vec![[0; MOST_LAYERS]; s];
+    let mut limit = vec![[NO_LIMIT; MOST_LAYERS]; s];
+    let mut cost = vec![[0; MOST_LAYERS]; s];
+    for (number, node) in net.nodes.iter().enumerate().skip(1) {
+        let stage = above[number];
+        for layer in 0..layers {
+            cost[stage][layer] += u32_at(net.bytes, node.costs + 4 * layer);
+        }
+        match node.kind {
+            Kind::Buffer { .. } => {
+                driven[stage].push(below[number]);
+                delay[below[number]] = node_delay[number].map(|ticks| ticks as i64);
+            }
+            Kind::Sink { required, .. } => {
+                for layer in 0..layers {
+                    limit[stage][layer] = limit[stage][layer].min(required - node_delay[number][layer] as i64);
+                }
+            }
+            _ => {}
+        }
+    }
+    Tree { driven, delay, limit, cost, layers, arrival: arrival(net) }
+}
+
+// ------------------------------------------------------------------------------------------------
+// The search
+// ------------------------------------------------------------------------------------------------
+
+/// Rows `a` and `b` merged, `b` over a delay: of two pointers the one with the lesser entry steps.
+fn merge(a: &[i64], b: &[i64], delay: i64, out: &mut [i64]) {
+    let (mut i, mut j) = (0, 0);
+    for entry in out {
+        let (x, y) = (a[i], b[j] - delay);
+        if x <= y {
+            *entry = x;
+            i += 1;
+        } else {
+            *entry = y;
+            j += 1;
+        }
+    }
+}
+
+/// The row of each stage at the grain g.
+fn fill_rows(tree: &Tree, table: &mut [i64], g: u64, width: usize) {
+    let s = tree.driven.len();
+    let (rows, merging) = table.split_at_mut(s * width);
+    let (mut merged, rest) = merging.split_at_mut(width);
+    let mut spare = &mut rest[..width];
+    for i in (0..s).rev() {
+        let (upper, lower) = rows.split_at_mut((i + 1) * width);
+        let own = &mut upper[i * width..];
+        own.fill(NEVER);
+        for layer in 0..tree.layers {
+            let cost = (tree.cost[i][layer] / g) as usize;
+            if cost >= width {
+                continue;
+            }
+            let limit = tree.limit[i][layer];
+            merged.fill(limit);
+            for (turn, &j) in tree.driven[i].iter().enumerate() {
+                let row = &lower[(j - i - 1) * width..(j - i) * width];
+                let delay = tree.delay[j][layer];
+                if turn == 0 {
+                    for (entry, time) in merged.iter_mut().zip(row) {
+                        *entry = limit.min(time - delay);
+                    }
+                } else {
+                    merge(merged, row, delay, spare);
+                    std::mem::swap(&mut merged, &mut spare);
+                }
+            }
+            for (entry, &time) in own.iter_mut().skip(cost).zip(merged.iter()) {
+                *entry = time.max(*entry);
+            }
+        }
+    }
+}
+
+/// V(k), or `width` if it does not fit.
+fn value_at(tree: &Tree, table: &mut [i64], g: u64, width: usize) -> usize {
+    fill_rows(tree, table, g, width);
+    table[..width].partition_point(|&time| time < tree.arrival)
+}
+
+/// The first plan of rounded cost V(k): stage after stage the lowest layer that attains the least.
+fn read_off(tree: &Tree, table: &[i64], g: u64, width: usize, plan: &mut [u8]) {
+    let s = tree.driven.len();
+    let column = |stage: usize, time: i64| table[stage * width..][..width].partition_point(|&entry| entry < time);
+    let mut times = [tree.arrival; MOST_STAGES];
+    for i in 0..s {
+        let time = times[i];
+        let least = column(i, time);
+        let need = |layer: usize| {
+            let below = tree.driven[i].iter().map(|&j| column(j, time + tree.delay[j][layer])).sum::<usize>();
+            (tree.cost[i][layer] / g) as usize + below
+        };
+        let attains = |&layer: &usize| time <= tree.limit[i][layer] && need(layer) <= least;
+        let layer = (0..tree.layers).find(attains).expect("some layer attains the least");
+        plan[i] = layer as u8;
+        for &j in &tree.driven[i] {
+            times[j] = time + tree.delay[j][layer];
+        }
+    }
+}
+
+/// The tree with each stage's least rounded cost taken off its costs, and the sum of what was taken off.
+fn excess(tree: &Tree, g: u64) -> (Tree, usize) {
+    let mut excess = tree.clone();
+    let mut base = 0;
+    for cost in &mut excess.cost {
+        let cost = &mut cost[..tree.layers];
+        cost.iter_mut().for_each(|cost| *cost /= g);
+        let least = *cost.iter().min().expect("a layer");
+        cost.iter_mut().for_each(|cost| *cost -= least);
+        base += least as usize;
+    }
+    (excess, base)
+}
+
+fn rounded(tree: &Tree, plan: &[u8], g: u64) -> usize {
+    tree.cost.iter().zip(plan).map(|(cost, &layer)| (cost[layer as usize] / g) as usize).sum()
+}
+
+/// V(k), if it is below `columns`, and its first plan into `known`, which holds a plan of rounded cost `bound`.
+fn plan_at(tree: &Tree, table: &mut [i64], g: u64, columns: usize, bound: usize, known: &mut [u8]) -> Option<usize> {
+    let (excess, base) = excess(tree, g);
+    if columns <= base {
+        return None;
+    }
+    let width = columns.min(bound + 1) - base;
+    let spent = value_at(&excess, table, 1, width);
+    if spent == width {
+        return None;
+    }
+    read_off(&excess, table, 1, width, known);
+    Some(base + spent)
+}
+
+/// From the largest k down, the first that qualifies: k and V(k), and its first plan into `known`.
+fn descend(tree: &Tree, table: &mut [i64], p: u64, q: u64, known: &mut [u8]) -> Option<(u64, usize)> {
+    let s = tree.driven.len();
+    let columns = table.len() / (s + 2);
+    let qualifies = |g: u64, value: usize| q * s as u64 * (g - 1) <= p * g * value as u64;
+    for k in (0..MOST_K).rev() {
+        let g = 1 << k;
+        let bound = rounded(tree, known, g);
+        if qualifies(g, bound) {
+            let value = plan_at(tree, table, g, columns, bound, known)?;
+            if qualifies(g, value) {
+                return Some((k, value));
+            }
+        }
+    }
+    unreachable!("k = 0 always qualifies")
+}
+
+/// A plan that meets timing: at the largest grain every rounded cost is 0, so one column is enough.
+fn feasible(tree: &Tree, known: &mut [u8]) -> bool {
+    let mut table = [0; MOST_STAGES + 2];
+    if value_at(tree, &mut table, 1 << MOST_K, 1) == 1 {
+        return false;
+    }
+    read_off(tree, &table, 1 << MOST_K, 1, known);
+    true
+}
+
+/// Plan.
+pub fn plan(bytes: &[u8], p: u64, q: u64, table: &mut [i64], plan: &mut [u8]) -> Result<Planned, Refusal> {
+    let net = read(bytes)?;
+    if p > MOST_SHARE || !(1..=MOST_SHARE).contains(&q) {
+        return Err(Refusal(9));
+    }
+    if plan.len() < net.stages {
+        return Err(Refusal(10));
+    }
+    let stages = stages_of(&net);
+    let tree = tree(&net, &stages);
+    let mut known = [0; MOST_STAGES];
+    if !feasible(&tree, &mut known) {
+        return Err(Refusal(11));
+    }
+    let found = descend(&tree, table, p, q, &mut known);
+    table.fill(0);
+    let (k, value) = found.ok_or(Refusal(12))?;
+    plan[..net.stages].copy_from_slice(&known[..net.stages]);
+    let Judged { cost, slack } = judged(&net, &stages, &known[..net.stages]);
+    Ok(Planned { cost, slack, k, floor: (value as u64) << k })
+}

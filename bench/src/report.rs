@@ -1,0 +1,124 @@
+//! The tables that are printed, in the form in which docs/SPEED.md shows them.
+
+use crate::families::Case;
+use crate::library::{self, Planned, Refusal};
+use crate::measure::Call;
+use std::time::Duration;
+
+/// Instructions of library and peer, if they were counted, and their times.
+pub type Measured = (Option<[u64; 2]>, [Duration; 2]);
+
+fn name(call: Call) -> String {
+    match call {
+        Call::Check => String::from("check"),
+        Call::Judge => String::from("judge"),
+        Call::Plan { p, q } => format!("plan {p}/{q}"),
+    }
+}
+
+fn micro(time: Duration) -> f64 {
+    time.as_secs_f64() * 1e6
+}
+
+/// Library over peer: by instructions, by time.
+fn ratio((counted, timed): &Measured) -> (Option<f64>, f64) {
+    let instructions = counted.map(|[library, peer]| library as f64 / peer as f64);
+    (instructions, timed[0].as_secs_f64() / timed[1].as_secs_f64())
+}
+
+fn shown<T: std::fmt::Display>(value: Option<T>) -> String {
+    value.map_or(String::from("-"), |value| value.to_string())
+}
+
+fn two_places(value: Option<f64>) -> String {
+    shown(value.map(|value| format!("{value:.2}")))
+}
+
+/// One row for each net and call, then averages and the worst for each call.
+pub fn ratios(cases: &[Case], calls: &[Call], measured: &[Measured]) {
+    println!("| net | call | instructions, library | peer | ratio | µs, library | peer | ratio |");
+    println!("|---|---|---:|---:|---:|---:|---:|---:|");
+    for (case, rows) in cases.iter().zip(measured.chunks(calls.len())) {
+        for (&call, row) in calls.iter().zip(rows) {
+            let (by_instructions, by_time) = ratio(row);
+            let [library, peer] = [0, 1].map(|side| shown(row.0.map(|counted| counted[side])));
+            let [fast, slow] = row.1.map(micro);
+            let ratios = two_places(by_instructions);
+            println!(
+                "| {} | {} | {library} | {peer} | {ratios} | {fast:.1} | {slow:.1} | {by_time:.2} |",
+                case.name,
+                name(call)
+            );
+        }
+    }
+    println!();
+    println!("| call | instructions: average ratio | worst | time: average ratio | worst |");
+    println!("|---|---:|---:|---:|---:|");
+    for (place, &call) in calls.iter().enumerate() {
+        let of_call: Vec<_> = measured.iter().skip(place).step_by(calls.len()).map(ratio).collect();
+        let counted: Option<Vec<f64>> = of_call.iter().map(|row| row.0).collect();
+        let timed: Vec<f64> = of_call.iter().map(|row| row.1).collect();
+        let (average, worst) = (counted.as_ref().map(|all| mean(all)), counted.as_ref().map(|all| most(all)));
+        let (average, worst) = (two_places(average), two_places(worst));
+        println!("| {} | {average} | {worst} | {:.2} | {:.2} |", name(call), mean(&timed), most(&timed));
+    }
+    println!();
+}
+
+/// The geometric mean: ratios multiply.
+fn mean(values: &[f64]) -> f64 {
+    (values.iter().map(|value| value.ln()).sum::<f64>() / values.len() as f64).exp()
+}
+
+fn most(values: &[f64]) -> f64 {
+    values.iter().copied().fold(0.0, f64::max)
+}
+
+/// How the library's work grows.
+pub fn growth(rows: &[(&str, usize, Case, Call)], measured: &[Measured]) {
+    println!("| what grows | to | instructions, library | per unit | µs, library | µs, peer |");
+    println!("|---|---:|---:|---:|---:|---:|");
+    for ((what, size, _, _), (counted, timed)) in rows.iter().zip(measured) {
+        let library = counted.map(|counted| counted[0]);
+        let per_unit = shown(library.map(|library| library / *size as u64));
+        let [library_time, peer_time] = timed.map(micro);
+        println!("| {what} | {size} | {} | {per_unit} | {library_time:.1} | {peer_time:.1} |", shown(library));
+    }
+    println!();
+}
+
+/// How far the plan for each share lies above the cheapest plan, which share 0 gives.
+pub fn excess(cases: &[Case], shares: &[(u64, u64)]) {
+    let promised: Vec<String> = shares.iter().map(|&(p, q)| format!("{p}/{q} ({:.0} %)", percent(p, q))).collect();
+    println!("| net | cheapest | {} |", promised.join(" | "));
+    println!("|---|---:|{}", "---:|".repeat(shares.len()));
+    for case in cases {
+        let cheapest = planned(case, 0, 1).cost;
+        let found: Vec<String> = shares
+            .iter()
+            .map(|&(p, q)| {
+                let plan = planned(case, p, q);
+                let above = plan.cost - cheapest;
+                assert!(plan.floor <= cheapest && q * above <= p * cheapest, "the promise is not kept");
+                format!("{:.2} %", percent(above, cheapest))
+            })
+            .collect();
+        println!("| {} | {cheapest} | {} |", case.name, found.join(" | "));
+    }
+}
+
+fn percent(part: u64, whole: u64) -> f64 {
+    100.0 * part as f64 / whole as f64
+}
+
+/// The library's plan, with a table that is long enough.
+fn planned(case: &Case, p: u64, q: u64) -> Planned {
+    let mut entries = library::enough_entries(case.stages as u64, p, q).unwrap_or(1 << 16);
+    loop {
+        match library::plan(&case.bytes, p, q, &mut vec![0; entries], &mut [0; 64]) {
+            Ok(planned) => return planned,
+            Err(Refusal(12)) => entries *= 2,
+            Err(refusal) => panic!("{refusal:?}"),
+        }
+    }
+}
