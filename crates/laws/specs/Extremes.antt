@@ -84,6 +84,15 @@ lowest-plus {A = A} a f (x ∷ xs) s = one x xs
     one x [] = refl
     one x (y ∷ ys) = omega (arith, one y ys)
 
+-- Functions that agree on the members of a list have the same least value.
+pub lowest-same {ℓ} : {A : Type ℓ} (f g : A → ℕ) (xs : List A) → ((x : A) → List·Memᴰ x xs → f x ≡ g x) → lowest f xs ≡ lowest g xs
+lowest-same f g [] h = refl
+lowest-same {A = A} f g (x ∷ xs) h = one x xs h
+  where
+    one : (x : A) (xs : List A) → ((y : A) → List·Memᴰ y (x ∷ xs) → f y ≡ g y) → lowest1 f x xs ≡ lowest1 g x xs
+    one x [] h = h x (List·Memᴰ·head refl)
+    one x (y ∷ ys) h = omega (arith, h x (List·Memᴰ·head refl), one y ys (λ z m. h z (List·Memᴰ·tail m)))
+
 -- The later of two times.
 abbrev pub maxZ : ℤ → ℤ → ℤ
 maxZ a b = cond (leZ a b) b a

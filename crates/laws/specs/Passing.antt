@@ -63,6 +63,10 @@ abbrev pub leastUpTo : ℕ → (ℕ → ℕ) → ℕ → ℕ
 leastUpTo most f zero = most
 leastUpTo most f (suc n) = min (leastUpTo most f n) (f n)
 
+pub leastUpTo-most : (most : ℕ) (f : ℕ → ℕ) (n : ℕ) → leastUpTo most f n ≤ most
+leastUpTo-most most f zero = omega arith
+leastUpTo-most most f (suc n) = omega (arith, leastUpTo-most most f n)
+
 lowest-last : (f : ℕ → ℕ) (a n : ℕ) → lowest f (from a (suc (suc n))) ≡ min (lowest f (from a (suc n))) (f (suc a + n))
 lowest-last f a zero = rw (add-zero (suc a))
 lowest-last f a (suc n) = let e : suc a + suc n ≡ suc (suc a) + n = omega arith in rw e (omega (arith, lowest-last f (suc a) n))

@@ -21,6 +21,10 @@ pub sum-most {ℓ} : {A : Type ℓ} (f : A → ℕ) (most : ℕ) → ((x : A) �
 sum-most f most h [] = omega arith
 sum-most f most h (x ∷ xs) = omega (arith, h x, sum-most f most h xs)
 
+pub sum-mono {ℓ} : {A : Type ℓ} (f g : A → ℕ) → ((x : A) → f x ≤ g x) → (xs : List A) → sum (map f xs) ≤ sum (map g xs)
+sum-mono f g h [] = omega arith
+sum-mono f g h (x ∷ xs) = omega (arith, h x, sum-mono f g h xs)
+
 pub sum-add {ℓ} : {A : Type ℓ} (f g : A → ℕ) (xs : List A) → sum (map (λ x. f x + g x) xs) ≡ sum (map f xs) + sum (map g xs)
 sum-add f g [] = refl
 sum-add f g (x ∷ xs) = omega (arith, sum-add f g xs)

@@ -4,6 +4,7 @@ pub mod Plans
 pub mod Programme
 pub mod Timing
 pub mod Value
+pub mod Excess
 pub mod ReadOff
 pub mod Rows
 pub mod Table

@@ -9,7 +9,7 @@ use lib.IntN.{ℤ, pos}
 use Rattle.oracle.specs.Stages.{StageTree}
 use Rattle.oracle.specs.Timing.{leastAt}
 use Rattle.oracle.specs.Rows.{Dual, dual-never}
-use Rattle.laws.specs.Passing.{leastUpTo}
+use Rattle.laws.specs.Passing.{leastUpTo, leastUpTo-most}
 use Rattle.rows.specs.Entries.{rowAt, Outside, maxEntry, never, never-range, InRange, RowIn, row-ends, row-outside, row-unmerged}
 use Rattle.rows.specs.Slices.{place}
 use Rattle.rows.specs.Contracts.{Filled, SpendIn, Spent, BranchesIn, Joined, FinishedFrom, StageIn, DualFrom, Represents, StageRow}
@@ -51,6 +51,23 @@ module _ {before : List ℤ} {driver delay : List ℕ} {limit : List ℤ} {cost 
 
     pub cost-in : l < layers → place i l < length cost
     cost-in h = omega (arith, L .asks .rows .slices .costs, L .asks .rows .slices .few-layers, L .asks .stage)
+
+    -- A layer that costs more than every budget changes nothing.
+    pub layer-skip : l < layers → width ≤ getD cost (place i l) 0 / g → Layering before driver delay limit cost stages layers g width i table (l + 1)
+    layer-skip h dear = record {
+      asks = L .asks;
+      most = omega arith;
+      long = L .long;
+      others = L .others;
+      range = L .range;
+      dual = λ T k lo S D E.
+          let cost-is = S .laid .cost-is i l (omega (arith, S .stages-are, L .asks .stage)) (omega (arith, S .layers-are)) in
+          let rounded : getD cost (place i l) 0 / g ≡ T .cost i l / 2 ^ k = ap (λ n. n / g) cost-is ∙ ap (λ n. T .cost i l / n) (S .grain-is) in
+          dual-agree lo (width - 1) (rowAt table (i * width)) (λ t. leastUpTo (suc (width - 1)) (onLayer T k width i t) l)
+          (λ t. leastUpTo (suc (width - 1)) (onLayer T k width i t) (l + 1))
+          (λ t from-lo. rw (add-one l) (omega (arith, L .asks .rows .columns, leastUpTo-most (suc (width - 1)) (onLayer T k width i t) l)))
+          (L .dual T k lo S D E);
+    }
 
     module _ {after : List ℤ} {row : ℕ} (J : Joined table after driver delay limit stages width i l row) where
       own-row : (w : ℕ) → w < width → rowAt after (i * width) w ≡ rowAt table (i * width) w

@@ -139,7 +139,7 @@ fn branches(
     row
 }
 
-// Row `i`: the best of its layers, each at its rounded cost.
+// Row `i`: the best of its layers, each at its rounded cost. A layer that costs more than every budget adds nothing.
 fn stage_row(
     table: &mut [i64],
     driver: &[usize],
@@ -158,12 +158,15 @@ fn stage_row(
 {
     let row = i * width;
     fill(table, row, width, NEVER);
-    let mut l = 0;
-    while l < layers {
-        let merged = branches(table, driver, delay, limit, stages, width, i, l);
-        let c = cost[i * MAX_LAYERS + l] / g;
-        spend(table, merged, row, width, c as usize);
-        l += 1;
+    let mut next = 0;
+    while next < layers {
+        let l = next;
+        next += 1;
+        let c = (cost[i * MAX_LAYERS + l] / g) as usize;
+        if c < width {
+            let merged = branches(table, driver, delay, limit, stages, width, i, l);
+            spend(table, merged, row, width, c);
+        }
     }
 }
 

@@ -1,23 +1,26 @@
 -- One round of the search: what the rows at a grain say of V(k) and of whether some plan meets timing.
-use mathlib.Core.Path.{_≡_, _∙_}
+use mathlib.Core.Path.{_≡_, refl, _∙_}
 use mathlib.Core.Bool.{true, false}
+use mathlib.Core.Option.{some}
 use mathlib.Core.List.{List}
-use Prim.Native.Nat.{ℕ, suc, _-_, _*_, _^_, _<_, min}
+use Prim.Native.Nat.{ℕ, suc, _+_, _-_, _*_, _^_, _≤_, _<_, min}
 use native.Mathlib.Omega.{arith}
-use lib.Dec.{eqb}
-use lib.ListN.{length}
+use lib.ListN.{length, drop}
+use lib.Seq.{take-at}
 use lib.IntN.{ℤ}
-use borrow.Author.Tests.{eqb-true, eq-eqb}
+use lib.Pow.{pow-pos}
 use Rattle.laws.specs.Integers.{le-self}
 use Rattle.rules.specs.Grain.{maxExponent}
 use Rattle.oracle.specs.Stages.{StageTree, planCosts}
 use Rattle.oracle.specs.Rounding.{rounded-small}
-use Rattle.oracle.specs.Value.{value, MeetingPlan}
+use Rattle.oracle.specs.Plans.{plans-mem}
+use Rattle.oracle.specs.Value.{value, firstPlan, MeetingPlan, first-meets}
 use Rattle.oracle.specs.Timing.{leastAt}
-use Rattle.oracle.specs.Result.{least-plan, plan-least, least-capped}
+use Rattle.oracle.specs.Result.{readPlan, least-plan, plan-least, least-capped, least-value, read-chosen}
 use Rattle.rows.specs.Contracts.{RowsIn, AllRows}
 use Rattle.readoff.specs.Laid.{Filled}
-use Rattle.readoff.specs.Contracts.{Column}
+use Rattle.readoff.specs.Contracts.{Column, Sized, Finished, ReadIn, PlanRead}
+use Rattle.rounding.specs.Contracts.{planIn}
 use Rattle.search.specs.Problem.{Numbers, slices-in, represents}
 use Rattle.search.specs.Contracts.{RoundIn, Round, Feasible}
 
@@ -48,17 +51,67 @@ module _ {driver delay : List ℕ} {limit : List ℤ} {cost : List ℕ} {stages 
   feasible-in {T = T} N e =
       record { tree = T; numbers = N; sized = omega (arith, N .stages-are, N .laid .few-stages); some-column = omega arith; some-grain = omega arith }
 
-  -- At the largest grain every rounded cost is 0: the round in one column tells whether some plan meets timing.
-  pub feasible-is : {T : StageTree} {r : ℕ} {table : List ℤ} → Numbers T driver delay limit cost stages layers arrival
-      → Round T maxExponent 1 table r → Feasible T (eqb r 0)
-  feasible-is {T} {r} N R = record { some = found; none = missing }
-    where
-      found : eqb r 0 ≡ true → (x : List ℕ) × MeetingPlan T x
-      found e = let (x, M, f) = least-plan T maxExponent 0 (N .tree) (omega (arith, R .is, eqb-true r 0 e)) in (x, M)
+  -- A finished table whose columns V(k) fits: ..
+  module _ {T : StageTree} {k width g v : ℕ} {table : List ℤ} (N : Numbers T driver delay limit cost stages layers arrival) (R : Round T k width table v)
+      (e : g ≡ 2 ^ k) (fits : v < width) (room : (stages + 2) * width ≤ length table) where
+    sized : Sized T table driver delay limit cost stages width g
+    sized = record {
+      laid = N .laid;
+      tree = N .tree;
+      stages-are = N .stages-are;
+      some-column = omega arith;
+      rows-long = omega (arith, room);
+      some-grain = rw e (pow-pos k);
+    }
 
-      missing : eqb r 0 ≡ false → (x : List ℕ) → MeetingPlan T x → ⊥
+    -- .. a plan can be read off it, ..
+    pub read-in : {times : List ℤ} {plan : List ℕ} → length times ≡ 64 → stages ≤ length plan
+        → ReadIn table driver delay limit cost stages layers width g arrival times plan
+    read-in same h = record {
+      tree = T;
+      sized = sized;
+      layers-are = N .layers-are;
+      arrival-is = N .arrival-is;
+      times-long = omega (arith, N .stages-are, N .laid .few-stages);
+      plan-long = h;
+    }
+
+    -- .. and that is the plan that 01 chooses at the grain.
+    pub read-first : (x : List ℕ) → MeetingPlan T x → {before after : List ℕ}
+        → PlanRead table driver delay limit cost stages layers width g arrival before after → firstPlan T k ≡ some (planIn stages after)
+    read-first x M {before} {after} P =
+        let h : value T k ≤ width - 1 = omega (arith, round-value N (omega arith) R x M) in
+        let F : Finished T k (T .arrival) table driver delay limit cost stages width g = record { sized = sized; grain-is = e; filled = R .filled } in
+        let small = least-value T k (width - 1) (N .tree) x M h in
+        let is = P .is T k (T .arrival) F (N .layers-are) (N .arrival-is) (le-self (T .arrival)) (omega (arith, small)) in
+        let chosen = read-chosen T k (width - 1) (N .tree) x M h in
+        let (Q, f) = first-meets T k (readPlan T k (width - 1)) chosen in
+        let (len, u) = plans-mem (T .layers) (T .stages) (readPlan T k (width - 1)) (Q .plan) in
+        let t : planIn stages after ≡ readPlan T k (width - 1) = rw is (take-at (readPlan T k (width - 1)) (drop stages before) stages (omega (arith, N .stages-are))) in
+        rw t chosen
+
+  -- At the largest grain every rounded cost is 0: the round in one column tells whether some plan meets timing.
+  pub feasible-none : {T : StageTree} {r : ℕ} {table : List ℤ} {known : List ℕ} → Numbers T driver delay limit cost stages layers arrival
+      → Round T maxExponent 1 table r → (r ≡ 0 → ⊥) → Feasible T stages known false
+  feasible-none {T} {r} N R n = record { some = λ e. absurd (false-true e); none = missing }
+    where
+      false-true : false ≡ true → ⊥
+      false-true e = let y : _≡_ {A = ℕ} 0 1 = cc in omega arith
+
+      missing : false ≡ false → (x : List ℕ) → MeetingPlan T x → ⊥
       missing e x M =
-          let z : r ≡ 0 = omega (arith, R .is, plan-least T maxExponent 0 (N .tree) x M, rounded-small (2 ^ maxExponent) (planCosts T x) (N .cheap x)) in
-          let t = eq-eqb r 0 z in
-          let y : _≡_ {A = ℕ} 0 1 = cc in
-          omega arith
+          n (omega (arith, R .is, plan-least T maxExponent 0 (N .tree) x M, rounded-small (2 ^ maxExponent) (planCosts T x) (N .cheap x)))
+
+  pub feasible-some : {T : StageTree} {r : ℕ} {table : List ℤ} {before after : List ℕ} → Numbers T driver delay limit cost stages layers arrival
+      → Round T maxExponent 1 table r → r ≡ 0 → length table ≡ 66
+      → PlanRead table driver delay limit cost stages layers 1 (2 ^ maxExponent) arrival before after → Feasible T stages after true
+  feasible-some {T} {r} {table} {before} {after} N R z long P = record { some = λ e. found; none = λ e. absurd (true-false e) }
+    where
+      true-false : true ≡ false → ⊥
+      true-false e = let y : _≡_ {A = ℕ} 0 1 = cc in omega arith
+
+      found : MeetingPlan T (planIn stages after)
+      found =
+          let (x, M, f) = least-plan T maxExponent 0 (N .tree) (omega (arith, R .is)) in
+          let room : (stages + 2) * 1 ≤ length table = omega (arith, N .stages-are, N .laid .few-stages) in
+          first-meets T maxExponent (planIn stages after) (read-first N R refl (omega arith) room x M P) .0

@@ -1,18 +1,20 @@
 // The search over grains on a tree of stages (01, Planning): whether some plan meets timing, the grain by a descent in k, the plan read off the table.
 use readoff::first_column;
 use readoff::read_plan;
+use rounding::excess_costs;
+use rounding::rounded_cost;
 use rows::fill_rows;
 ghost use mathlib.Core.Path.{_≡_};
-ghost use mathlib.Core.List.{List};
-ghost use Prim.Native.Nat.{ℕ, _+_, _-_, _*_, _/_, _^_, _≤_, _<_, min};
+ghost use mathlib.Core.List.{_++_};
+ghost use Prim.Native.Nat.{ℕ, _+_, _-_, _*_, _/_, _^_, _≤_, min};
 ghost use lib.Dec.{leb};
-ghost use lib.ListN.{length, replicate};
+ghost use lib.ListN.{length, drop, replicate};
 ghost use lib.IntN.{pos};
-ghost use Rattle.rules.specs.Grain.{maxExponent};
 ghost use Rattle.oracle.specs.Stages.{StageTree};
 ghost use Rattle.oracle.specs.Value.{MeetingPlan};
+ghost use Rattle.rounding.specs.Contracts.{planIn};
 ghost use Rattle.search.specs.Problem.{Numbers, Problem};
-ghost use Rattle.search.specs.Contracts.{RoundIn, Round, Feasible, TestIn, DescendIn, Searched};
+ghost use Rattle.search.specs.Contracts.{RoundIn, Round, Feasible, TestIn, Known, PlanAtIn, PlanAt, DescendIn, Searched};
 ghost use Rattle.search.specs.Planned.{PlanIn, Planned};
 
 // The largest k, and its grain: every plan's cost is below it.
@@ -49,7 +51,8 @@ fn value_at(
     first_column(table, 0, width, arrival)
 }
 
-// Whether some plan meets timing: at the largest grain every rounded cost is 0, so one column is enough.
+// Whether some plan meets timing, and if so one that does, into the first bytes of `known`: at the largest grain every rounded cost is 0, so one column is
+// enough.
 fn feasible(
     driver: &[usize],
     delay: &[u64],
@@ -58,9 +61,11 @@ fn feasible(
     stages: usize,
     layers: usize,
     arrival: i64,
+    known: &mut [u8],
 ) -> bool
-    requires { ⌜ ((T : StageTree) × Numbers T (now driver) (now delay) (now limit) (now cost) stages layers arrival) ⌝ }
-    ensures { λ r. ⌜ ((T : StageTree) → Numbers T (now (driver .entry)) (now (delay .entry)) (now (limit .entry)) (now (cost .entry)) stages layers arrival → Feasible T r) ⌝ }
+    requires { ⌜ ((T : StageTree) × Numbers T (now driver) (now delay) (now limit) (now cost) stages layers arrival) × (stages ≤ length (now known)) ⌝ }
+    ensures { λ r. ⌜ ((T : StageTree) → Numbers T (now (driver .entry)) (now (delay .entry)) (now (limit .entry)) (now (cost .entry)) stages layers arrival
+        → Feasible T stages (now (known .exit)) r) ⌝ }
 {
     let mut table = [0i64; 66];
     let least = value_at(
@@ -75,33 +80,104 @@ fn feasible(
         MAX_GRAIN,
         1,
     );
-    least == 0
+    if least != 0 {
+        return false;
+    }
+    let mut times = [0i64; 64];
+    read_plan(
+        &table,
+        driver,
+        delay,
+        limit,
+        cost,
+        stages,
+        layers,
+        1,
+        MAX_GRAIN,
+        arrival,
+        &mut times,
+        known,
+    );
+    true
 }
 
-// The columns that V(k) needs at most, if V(k + 1) is `above`; no more than there are.
-fn width_for(columns: usize, above: usize, stages: usize) -> usize
-    requires { ⌜ (above < 2 ^ maxExponent) × (stages ≤ 64) ⌝ }
-    ensures { λ r. ⌜ r ≡ min columns (2 * above + stages + 1) ⌝ }
+// The lesser of two numbers.
+fn lesser(a: usize, b: usize) -> usize
+    ensures { λ r. ⌜ r ≡ min a b ⌝ }
 {
-    let most = 2 * above + stages + 1;
-    if columns < most {
+    if a <= b {
+        return a;
+    }
+    b
+}
+
+// V(k) at the grain g, and into `known` the plan that 01 chooses at that grain; or `columns` if V(k) is no less. `known` holds a plan that meets timing, and
+// `bound` is its rounded cost, which V(k) does not exceed. The columns of the rows count what is spent above the least of each stage.
+fn plan_at(
+    table: &mut [i64],
+    driver: &[usize],
+    delay: &[u64],
+    limit: &[i64],
+    cost: &[u64],
+    stages: usize,
+    layers: usize,
+    arrival: i64,
+    g: u64,
+    columns: usize,
+    bound: usize,
+    known: &mut [u8],
+) -> usize
+    requires { ⌜ PlanAtIn (now table) (now driver) (now delay) (now limit) (now cost) stages layers arrival g columns bound (now known) ⌝ }
+    ensures { λ r. ⌜ ((T : StageTree) (k : ℕ) → Numbers T (now (driver .entry)) (now (delay .entry)) (now (limit .entry)) (now (cost .entry)) stages layers arrival
+        → g ≡ 2 ^ k → Known T k stages (now (known .entry)) bound → PlanAt T k columns stages (now (known .exit)) r) ⌝ }
+{
+    let mut excess = [0u64; 1024];
+    let base = excess_costs(cost, stages, layers, g, &mut excess);
+    if columns <= base {
         return columns;
     }
-    most
+    let width = lesser(columns, bound + 1) - base;
+    let spent = value_at(
+        table,
+        driver,
+        delay,
+        limit,
+        &excess,
+        stages,
+        layers,
+        arrival,
+        1,
+        width,
+    );
+    if spent == width {
+        return columns;
+    }
+    let mut times = [0i64; 64];
+    read_plan(
+        table,
+        driver,
+        delay,
+        limit,
+        &excess,
+        stages,
+        layers,
+        width,
+        1,
+        arrival,
+        &mut times,
+        known,
+    );
+    base + spent
 }
 
-// What the descent finds: the grain 2^k = g, V(k) and the columns of the finished table, or that the columns are too few.
+// What the descent finds: the grain 2^k = g and V(k), or that the columns are too few.
 enum Search {
     Short,
-    Found {
-        k: usize,
-        g: u64,
-        value: usize,
-        width: usize,
-    },
+    Found { k: usize, g: u64, value: usize },
 }
 
-// From the largest k down, the first that qualifies.
+// From the largest k down, the first that qualifies, and the plan that 01 chooses at its grain, into `known`. A k at which not even the rounded cost of the
+// plan known so far qualifies is passed over: V(k) is no more.
 fn descend(
     table: &mut [i64],
     driver: &[usize],
@@ -113,46 +189,42 @@ fn descend(
     arrival: i64,
     p: u64,
     q: u64,
+    known: &mut [u8],
 ) -> Search
-    requires { ⌜ DescendIn (now driver) (now delay) (now limit) (now cost) stages layers arrival p q ⌝ }
+    requires { ⌜ DescendIn (now driver) (now delay) (now limit) (now cost) stages layers arrival p q (now known) ⌝ }
     ensures { λ r. ⌜ ((T : StageTree) → Problem T (now (driver .entry)) (now (delay .entry)) (now (limit .entry)) (now (cost .entry)) stages layers arrival p q
-        → (x : List ℕ) → MeetingPlan T x → Searched T p q (length (now (table .entry)) / (stages + 2)) (now (table .exit)) r) ⌝ }
+        → MeetingPlan T (planIn stages (now (known .entry)))
+        → Searched T p q (length (now (table .entry)) / (stages + 2)) stages (now (known .exit)) r) ⌝ }
 {
     let columns = table.len() / (stages + 2);
-    if columns == 0 {
-        return Search::Short;
-    }
-    let mut above: usize = 0;
     let mut k: usize = MAX_EXPONENT;
     let mut g: u64 = MAX_GRAIN;
     while 0 < k {
         k -= 1;
         g = g / 2;
-        let width = width_for(columns, above, stages);
-        let v = value_at(
-            table,
-            driver,
-            delay,
-            limit,
-            cost,
-            stages,
-            layers,
-            arrival,
-            g,
-            width,
-        );
-        if v == width {
-            return Search::Short;
-        }
-        if qualifies(p, q, stages, g, v) {
-            return Search::Found {
-                k,
+        let bound = rounded_cost(cost, known, stages, g);
+        if qualifies(p, q, stages, g, bound) {
+            let v = plan_at(
+                table,
+                driver,
+                delay,
+                limit,
+                cost,
+                stages,
+                layers,
+                arrival,
                 g,
-                value: v,
-                width,
-            };
+                columns,
+                bound,
+                known,
+            );
+            if v == columns {
+                return Search::Short;
+            }
+            if qualifies(p, q, stages, g, v) {
+                return Search::Found { k, g, value: v };
+            }
         }
-        above = v;
     }
     // k = 0 always qualifies, so this is not reached.
     Search::Short
@@ -165,6 +237,18 @@ fn clear(table: &mut [i64])
     let mut i: usize = 0;
     while i < table.len() {
         table[i] = 0;
+        i += 1;
+    }
+}
+
+// The plan in the first bytes of `known` becomes that in the first bytes of `plan`.
+fn copy_plan(known: &[u8], stages: usize, plan: &mut [u8])
+    requires { ⌜ (stages ≤ length (now known)) × (stages ≤ length (now plan)) ⌝ }
+    ensures { λ _. ⌜ now (plan .exit) ≡ planIn stages (now (known .entry)) ++ drop stages (now (plan .entry)) ⌝ }
+{
+    let mut i: usize = 0;
+    while i < stages {
+        plan[i] = known[i];
         i += 1;
     }
 }
@@ -194,7 +278,17 @@ pub fn plan_tree(
     ensures { λ r. ⌜ ((T : StageTree) → Problem T (now (driver .entry)) (now (delay .entry)) (now (limit .entry)) (now (cost .entry)) stages layers arrival p q
         → Planned T p q stages (now (table .entry)) (now (table .exit)) (now (plan .entry)) (now (plan .exit)) r) ⌝ }
 {
-    if !feasible(driver, delay, limit, cost, stages, layers, arrival) {
+    let mut known = [0u8; 64];
+    if !feasible(
+        driver,
+        delay,
+        limit,
+        cost,
+        stages,
+        layers,
+        arrival,
+        &mut known,
+    ) {
         return Outcome::Late;
     }
     let search = descend(
@@ -208,26 +302,12 @@ pub fn plan_tree(
         arrival,
         p,
         q,
-    );
-    let Search::Found { k, g, value, width } = search else {
-        clear(table);
-        return Outcome::Short;
-    };
-    let mut times = [0i64; 64];
-    read_plan(
-        table,
-        driver,
-        delay,
-        limit,
-        cost,
-        stages,
-        layers,
-        width,
-        g,
-        arrival,
-        &mut times,
-        plan,
+        &mut known,
     );
     clear(table);
+    let Search::Found { k, g, value } = search else {
+        return Outcome::Short;
+    };
+    copy_plan(&known, stages, plan);
     Outcome::Found { k, g, value }
 }

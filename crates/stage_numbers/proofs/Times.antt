@@ -16,7 +16,8 @@ use Rattle.rules.specs.Bytes.{maxLayers}
 use Rattle.facts.specs.Ranges.{TimeInRange}
 use Rattle.facts.specs.Fits.{halfRange}
 use Rattle.delays.specs.Tables.{entry}
-use Rattle.stage_numbers.specs.Rows.{RowOf, Setting, lowered, next-kept, setting-more}
+use Rattle.readoff.specs.RowSets.{RowOf, Setting, next-kept, setting-more}
+use Rattle.stage_numbers.specs.LimitRows.{lowered}
 
 -- A required time.
 pub time-fits : (r : ℤ) → TimeInRange r → SFits w64 r

@@ -1,4 +1,4 @@
-pub mod Rows
+pub mod LimitRows
 pub mod Limits
 pub mod Noted
 pub mod Numbered

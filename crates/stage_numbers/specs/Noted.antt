@@ -10,7 +10,8 @@ use Rattle.rules.specs.declared.Kind.the-variants.{Steiner, Buffer, Sink}
 use Rattle.facts.specs.Ranges.{KindInRange}
 use Rattle.facts.specs.Fits.{halfRange}
 use Rattle.delays.specs.Tables.{entry, RowIn}
-use Rattle.stage_numbers.specs.Rows.{RowOf, RowSet, lowered}
+use Rattle.readoff.specs.RowSets.{RowOf, RowSet}
+use Rattle.stage_numbers.specs.LimitRows.{lowered}
 
 -- What noting node j asks: the row of its delays, a place for each of the stages above and below it, and a required time in its range.
 pub record NoteIn (kind : Kind) (layers : ℕ) (delay : List ℕ) (j above own : ℕ) (driver wire : List ℕ) (limit : List ℤ) : Type 0 where

@@ -23,7 +23,8 @@ use Rattle.delays.specs.Tables.{entry}
 use Rattle.delays.specs.Delayed.{Delayed, delayTo, delay-below}
 use Rattle.demands.specs.StageNumbers.{sinkLimit}
 use Rattle.readoff.specs.Laid.{limitOf}
-use Rattle.stage_numbers.specs.Rows.{RowSet, lowered, NoLimits}
+use Rattle.readoff.specs.RowSets.{RowSet}
+use Rattle.stage_numbers.specs.LimitRows.{lowered, NoLimits}
 use Rattle.stage_numbers.specs.Limits.{limitsTo, limits-none, limits-more, limits-skip, limit-last, sink-limit, limit-in}
 use Rattle.stage_numbers.specs.Noted.{NoteIn, Noted}
 

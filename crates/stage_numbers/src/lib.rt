@@ -17,7 +17,8 @@ ghost use Rattle.delays.specs.Delayed.{Delayed};
 ghost use Rattle.costs.specs.Priced.{Priced};
 ghost use Rattle.demands.specs.StageNumbers.{treeOf};
 ghost use Rattle.readoff.specs.Laid.{Laid};
-ghost use Rattle.stage_numbers.specs.Rows.{RowOf, RowSet, lowered, NoLimits};
+ghost use Rattle.readoff.specs.RowSets.{RowOf, RowSet};
+ghost use Rattle.stage_numbers.specs.LimitRows.{lowered, NoLimits};
 ghost use Rattle.stage_numbers.specs.Noted.{NoteIn, Noted};
 
 // What stands for no limit at all: no time that is compared with it is later.

@@ -88,6 +88,35 @@ pub fn slack_of(
     minus(required, arrival)
 }
 
+// The cost and slack of a plan of the net, by its tables.
+pub fn judged_by(
+    net: &[u8],
+    heads: &[usize],
+    layers: usize,
+    nodes: usize,
+    stage: &[usize],
+    below: &[usize],
+    delay: &[u64],
+    costs: &[u64],
+    plan: &[u8],
+) -> Judged
+    requires { ⌜
+        Held (now net) (now heads) nodes layers × Tables (netOf (now net)) (now stage) (now below) (now delay) (now costs) × Fitting (netOf (now net)) (now plan)
+        ⌝ }
+    ensures { λ r.
+        ⌜
+        r ≡ record { refusal = 0; cost = cost (netOf (now (net .entry))) (now (plan .entry)); slack = slack (netOf (now (net .entry))) (now (plan .entry)) }
+        ⌝ }
+{
+    let cost = plan_cost(costs, plan);
+    let slack = slack_of(net, heads, layers, nodes, stage, below, delay, plan);
+    Judged {
+        refusal: 0,
+        cost,
+        slack,
+    }
+}
+
 // The cost and slack of a plan of the net.
 pub fn judged(net: &[u8], heads: &[usize], layers: usize, nodes: usize, plan: &[u8]) -> Judged
     requires { ⌜ Held (now net) (now heads) nodes layers × Fitting (netOf (now net)) (now plan) ⌝ }
@@ -110,11 +139,15 @@ pub fn judged(net: &[u8], heads: &[usize], layers: usize, nodes: usize, plan: &[
         &mut delay,
         &mut costs,
     );
-    let cost = plan_cost(&costs, plan);
-    let slack = slack_of(net, heads, layers, nodes, &stage, &below, &delay, plan);
-    Judged {
-        refusal: 0,
-        cost,
-        slack,
-    }
+    judged_by(
+        net,
+        heads,
+        layers,
+        nodes,
+        &stage,
+        &below,
+        &delay,
+        &costs,
+        plan,
+    )
 }

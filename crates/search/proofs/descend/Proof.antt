@@ -8,90 +8,124 @@ use mir.Syntax.{w64}
 use mir.Val.{toZ, ofZ}
 use Rattle.search.specs.Problem.{problem-same}
 use Rattle.search.specs.Contracts.{DescendIn, descend-same}
-use Rattle.search.proofs.Descent.{Descending, descending-start, descending-end, width-in, round-in, turn-short, turn-test, turn-found, turn-more}
+use Rattle.search.proofs.Descent.{Descending, descending-start, descending-end, rounding-in, bound-test, turn-over, plan-at-in, turn-short, turn-test, turn-found, turn-more}
 use Rattle.search.proofs.descend.Statement.{statement}
 use Rattle.search.proofs.descend.Tie as tie
+use Rattle.search.proofs.descend.Reads as reads
+use Rattle.search.proofs.descend.Lts as lts
+use Rattle.rounding.proofs.rounded_cost.Reads as rounded-cost-reads
+use Rattle.search.proofs.plan_at.Reads as plan-at-reads
+use Rattle.search.proofs.qualifies.Reads as qualifies-reads
 
 abbrev Inv-loop : tie.InvT-loop
-Inv-loop table₀ driver delay limit cost stages layers arrival p q columns above₀ k₀ g₀ table above k g =
-    Descending table₀ driver delay limit cost stages layers (toZ w64 arrival) p q columns table above k g
+Inv-loop table₀ driver delay limit cost stages layers arrival p q known₀ columns k₀ g₀ table known k g =
+    Descending table₀ driver delay limit cost stages layers (toZ w64 arrival) p q known₀ columns table known k g
 
 abbrev μ-loop : tie.MeasureT-loop
-μ-loop table₀ driver delay limit cost stages layers arrival p q columns above₀ k₀ g₀ table above k g = k
-
-abbrev start : tie.Else1 Inv-loop μ-loop → tie.Start Inv-loop μ-loop
-start c = c .before .before .before .before
+μ-loop table₀ driver delay limit cost stages layers arrival p q known₀ columns k₀ g₀ table known k g = k
 
 -- the arrival time as the loop has it
-time-is : (c : tie.Else1 Inv-loop μ-loop) → toZ w64 (ofZ w64 (start c .args .arrival)) ≡ start c .args .arrival
-time-is c = toZ-ofZ (start c .fits .arrival)
+time-is : (c : tie.Start Inv-loop μ-loop) → toZ w64 (ofZ w64 (c .args .arrival)) ≡ c .args .arrival
+time-is c = toZ-ofZ (c .fits .arrival)
 
 -- what is asked, with the arrival time in that form
-asked : (c : tie.Else1 Inv-loop μ-loop)
-    → DescendIn (start c .args .driver .now) (start c .args .delay .now) (start c .args .limit .now) (start c .args .cost .now) (start c .args .stages) (start c .args .layers)
-    (toZ w64 (ofZ w64 (start c .args .arrival))) (start c .args .p) (start c .args .q)
-asked c = descend-same (time-is c) (start c .pre)
+asked : (c : tie.Start Inv-loop μ-loop)
+    → DescendIn (c .args .driver .now) (c .args .delay .now) (c .args .limit .now) (c .args .cost .now) (c .args .stages) (c .args .layers)
+    (toZ w64 (ofZ w64 (c .args .arrival))) (c .args .p) (c .args .q) (c .args .known .now)
+asked c = descend-same (time-is c) (c .pre)
 
 add-columns : tie.Need-add-columns Inv-loop μ-loop
 add-columns c = search needs
 
+-- src/lib.rt:179:19
 div-columns : tie.Need-div-columns Inv-loop μ-loop
 div-columns c = search needs
 
-returns : tie.Need-returns Inv-loop μ-loop
-returns c = λ T P x M. omega arith
-
+-- src/lib.rt:182:5
 loop-holds : tie.Need-loop-holds Inv-loop μ-loop
-loop-holds c = descending-start refl (omega arith)
+loop-holds c = descending-start refl
 
+-- src/lib.rt:183:9
 sub-k : tie.Need-sub-k Inv-loop μ-loop
 sub-k c = search needs
 
-width-for-requires : tie.Need-width-for-requires Inv-loop μ-loop
-width-for-requires c κs = width-in (c .before .loop .inv) (asked (c .before .before))
+-- src/lib.rt:185:13
+rounded-cost-requires : tie.Need-rounded-cost-requires Inv-loop μ-loop
+rounded-cost-requires c κs = rounding-in (c .before .before .loop .inv) (c .before .loop-test .taken) (asked (c .before .before .before .before .before .before .before))
 
-value-at-requires : tie.Need-value-at-requires Inv-loop μ-loop
-value-at-requires c κs =
-    round-in (c .before .before .before .loop .inv) (omega arith) (c .before .width-for .ensures) (asked (c .before .before .before .before))
+-- src/lib.rt:186:12
+qualifies-requires : tie.Need-qualifies-requires Inv-loop μ-loop
+qualifies-requires c κs = bound-test (c .before .before .before .loop .inv) (c .before .before .loop-test .taken) (c .rounded-cost .ensures) (asked (c .before .before .before .before .before .before .before .before))
 
+-- src/lib.rt:187:17
+plan-at-requires : tie.Need-plan-at-requires Inv-loop μ-loop
+plan-at-requires c κs = plan-at-in (c .before .before .before .before .before .before .before .loop .inv) (c .before .before .before .before .before .before .loop-test .taken) (c .before .before .before .before .rounded-cost .ensures) (asked (c .before .before .before .before .before .before .before .before .before .before .before .before))
+
+-- src/lib.rt:191:17
 same-length : tie.Need-same-length Inv-loop μ-loop
 same-length c = search needs
 
-returns-2 : tie.Need-returns-2 Inv-loop μ-loop
-returns-2 c = λ T P x M.
-    let w = c .before .before .before .before in
-    turn-short (w .before .before .loop .inv) (omega arith) (w .width-for .ensures) (c .before .before .value-at .ensures) (omega arith) T
-    (problem-same (time-is (w .before .before .before)) P) x M
-
-qualifies-requires : tie.Need-qualifies-requires Inv-loop μ-loop
-qualifies-requires c κs =
-    let w = c .before .before .before .before in
-    turn-test (w .before .before .loop .inv) (omega arith) (w .width-for .ensures) (c .before .before .value-at .ensures) (λ z. omega arith) (asked (w .before .before .before))
-
+-- src/lib.rt:191:17
 same-length-2 : tie.Need-same-length-2 Inv-loop μ-loop
 same-length-2 c = search needs
 
-returns-3 : tie.Need-returns-3 Inv-loop μ-loop
-returns-3 c = λ T P x M.
-    let w = c .before .before .before .before .before .before in
-    let test = sym (c .before .qualifies .ensures) ∙ c .if3 .taken in
-    turn-found (w .before .before .loop .inv) (omega arith) (w .width-for .ensures) (c .before .before .before .before .value-at .ensures) (λ z. omega arith) test T
-    (problem-same (time-is (w .before .before .before)) P) x M
+-- src/lib.rt:191:17
+returns : tie.Need-returns Inv-loop μ-loop
+returns c = λ T P M.
+    turn-short (c .before .before .before .before .before .before .before .before .before .before .before .before .loop .inv) (c .before .before .before .before .before .before .before .before .before .before .before .loop-test .taken) (c .before .before .before .before .before .before .before .before .before .rounded-cost .ensures) (c .before .before .before .before .plan-at .ensures) (omega arith) T
+    (problem-same (time-is (c .before .before .before .before .before .before .before .before .before .before .before .before .before .before .before .before .before)) P) M
 
-loop-less : tie.Need-loop-less Inv-loop μ-loop
-loop-less c = search needs
+-- src/lib.rt:193:16
+qualifies-requires-2 : tie.Need-qualifies-requires-2 Inv-loop μ-loop
+qualifies-requires-2 c κs =
+    turn-test (c .before .before .before .before .before .before .before .before .before .before .before .before .loop .inv) (c .before .before .before .before .before .before .before .before .before .before .before .loop-test .taken) (c .before .before .before .before .before .before .before .before .before .rounded-cost .ensures) (c .before .before .before .before .plan-at .ensures) (c .if2 .left) (asked (c .before .before .before .before .before .before .before .before .before .before .before .before .before .before .before .before .before))
 
-loop-again : tie.Need-loop-again Inv-loop μ-loop
-loop-again c =
-    let w = c .before .before .before .before .before .before in
-    let test = sym (c .before .qualifies .ensures) ∙ c .if3 .left in
-    turn-more (w .before .before .loop .inv) (omega arith) (w .width-for .ensures) (c .before .before .before .before .value-at .ensures) (λ z. omega arith) test (omega arith)
-
+-- src/lib.rt:194:17
 same-length-3 : tie.Need-same-length-3 Inv-loop μ-loop
 same-length-3 c = search needs
 
-returns-4 : tie.Need-returns-4 Inv-loop μ-loop
-returns-4 c = λ T P x M. absurd (descending-end (c .before .loop .inv) (omega arith) T (problem-same (time-is (c .before .before)) P) x M)
+-- src/lib.rt:194:17
+same-length-4 : tie.Need-same-length-4 Inv-loop μ-loop
+same-length-4 c = search needs
+
+-- src/lib.rt:194:17
+returns-2 : tie.Need-returns-2 Inv-loop μ-loop
+returns-2 c = λ T P M.
+    let test = sym (c .before .qualifies2 .ensures) ∙ c .if3 .taken in
+    turn-found (c .before .before .before .before .before .before .before .before .before .before .before .before .before .before .loop .inv) (c .before .before .before .before .before .before .before .before .before .before .before .before .before .loop-test .taken) (c .before .before .before .before .before .before .before .before .before .before .before .rounded-cost .ensures) (c .before .before .before .before .before .before .plan-at .ensures) (c .before .before .if2 .left) test T
+    (problem-same (time-is (c .before .before .before .before .before .before .before .before .before .before .before .before .before .before .before .before .before .before .before)) P) M
+
+-- src/lib.rt:182:5
+loop-less : tie.Need-loop-less Inv-loop μ-loop
+loop-less c = search needs
+
+-- src/lib.rt:182:5
+loop-again : tie.Need-loop-again Inv-loop μ-loop
+loop-again c =
+    let test = sym (c .before .qualifies2 .ensures) ∙ c .if3 .left in
+    turn-more (c .before .before .before .before .before .before .before .before .before .before .before .before .before .before .loop .inv) (c .before .before .before .before .before .before .before .before .before .before .before .before .before .loop-test .taken) (c .before .before .before .before .before .before .before .before .before .before .before .rounded-cost .ensures) (c .before .before .before .before .before .before .plan-at .ensures) (c .before .before .if2 .left) test (search needs) (search needs)
+
+-- src/lib.rt:182:5
+loop-less-2 : tie.Need-loop-less-2 Inv-loop μ-loop
+loop-less-2 c = search needs
+
+-- src/lib.rt:182:5
+loop-again-2 : tie.Need-loop-again-2 Inv-loop μ-loop
+loop-again-2 c =
+    let test = sym (c .before .qualifies .ensures) ∙ c .if1 .left in
+    turn-over (c .before .before .before .before .before .loop .inv) (c .before .before .before .before .loop-test .taken) (c .before .before .rounded-cost .ensures) test
+
+-- src/lib.rt:161:1
+same-length-5 : tie.Need-same-length-5 Inv-loop μ-loop
+same-length-5 c = search needs
+
+-- src/lib.rt:161:1
+same-length-6 : tie.Need-same-length-6 Inv-loop μ-loop
+same-length-6 c = search needs
+
+-- src/lib.rt:161:1
+returns-3 : tie.Need-returns-3 Inv-loop μ-loop
+returns-3 c = λ T P M. absurd (descending-end (c .before .loop .inv) (omega arith) T (problem-same (time-is (c .before .before .before .before .before .before)) P) M)
 
 pub descend-spec : {M : Type 1} → statement M
 descend-spec =
@@ -101,17 +135,22 @@ descend-spec =
     μ-loop
     add-columns
     div-columns
-    returns
     loop-holds
     sub-k
-    width-for-requires
-    value-at-requires
-    same-length
-    returns-2
+    rounded-cost-requires
     qualifies-requires
+    plan-at-requires
+    same-length
     same-length-2
-    returns-3
+    returns
+    qualifies-requires-2
+    same-length-3
+    same-length-4
+    returns-2
     loop-less
     loop-again
-    same-length-3
-    returns-4)
+    loop-less-2
+    loop-again-2
+    same-length-5
+    same-length-6
+    returns-3)

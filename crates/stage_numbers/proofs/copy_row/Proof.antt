@@ -4,7 +4,7 @@ use Prim.Native.Nat.{_-_}
 use mathlib.Core.Path.{refl}
 use native.Mathlib.Omega.{arith}
 use Rattle.delays.specs.Tables.{entry}
-use Rattle.stage_numbers.specs.Rows.{Setting, setting-start, setting-more, setting-end}
+use Rattle.readoff.specs.RowSets.{Setting, setting-start, setting-more, setting-end}
 use Rattle.stage_numbers.proofs.copy_row.Statement.{statement}
 use Rattle.stage_numbers.proofs.copy_row.Tie as tie
 use Rattle.stage_numbers.proofs.copy_row.Reads as reads

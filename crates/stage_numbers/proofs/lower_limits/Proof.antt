@@ -7,7 +7,8 @@ use borrow.Author.Needs.{needs, sfits-of}
 use mir.Facts.{toZ-ofZ}
 use mir.Syntax.{w64}
 use mir.Val.{toZ}
-use Rattle.stage_numbers.specs.Rows.{Setting, lowered, setting-start, setting-end}
+use Rattle.readoff.specs.RowSets.{Setting, setting-start, setting-end}
+use Rattle.stage_numbers.specs.LimitRows.{lowered}
 use Rattle.stage_numbers.proofs.Times.{lowered-more}
 use Rattle.stage_numbers.proofs.lower_limits.Statement.{statement}
 use Rattle.stage_numbers.proofs.lower_limits.Tie as tie

@@ -3,7 +3,7 @@ use borrow.Author.Needs.{needs}
 use Prim.Native.Nat.{_-_}
 use native.Mathlib.Omega.{arith}
 use lib.ListN.{length}
-use Rattle.stage_numbers.specs.Rows.{Clearing, clearing-start, clearing-more, clearing-end}
+use Rattle.stage_numbers.specs.LimitRows.{Clearing, clearing-start, clearing-more, clearing-end}
 use Rattle.stage_numbers.proofs.no_limits.Statement.{statement}
 use Rattle.stage_numbers.proofs.no_limits.Tie as tie
 use Rattle.stage_numbers.proofs.no_limits.Reads as reads
