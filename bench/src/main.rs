@@ -1,6 +1,7 @@
 //! The library's speed beside the peer's: the same method, written in plain Rust and compiled with optimization.
 //!
 //!     vorphiel-bench          prints the tables of docs/SPEED.md
+//!     vorphiel-bench --same   only whether both give the same answers
 //!     vorphiel-bench --once   each measured call once, for callgrind
 
 mod families;
@@ -46,12 +47,17 @@ fn main() {
     let at_limits = cases.iter().flat_map(|case| calls.iter().map(move |&call| Job::new(case, call)));
     let mut jobs: Vec<Job> = at_limits.collect();
     jobs.extend(growing.iter().map(|(_, _, case, call)| Job::new(case, *call)));
-    if std::env::args().any(|argument| argument == "--once") {
+    let asked = std::env::args().nth(1);
+    if asked.as_deref() == Some("--once") {
         measure::run_once(&mut jobs);
         return;
     }
     for job in &mut jobs {
         assert_eq!(job.answer(&measure::LIBRARY), job.answer(&measure::PEER), "the peer answers otherwise");
+    }
+    if asked.as_deref() == Some("--same") {
+        println!("{} answers the same", jobs.len());
+        return;
     }
     let counted = measure::instructions(jobs.len());
     let timed: Vec<_> = jobs.iter_mut().map(Job::times).collect();
