@@ -533,11 +533,11 @@ static void write_number(struct net *net, const struct place *place, uint64_t va
 static struct net pool[POOL];
 static size_t given, pooled;
 
-/* Of two, mostly the shorter one: short nets are tried quickly. */
+/* Any of them, but a long one seldom: short nets are tried quickly. */
 static const struct net *some_net(void)
 {
     const struct net *one = &pool[below(pooled)], *other = &pool[below(pooled)];
-    return (one->len < other->len) != one_in(6) ? one : other;
+    return one->len < 3000 || one_in(20) ? one : other;
 }
 
 static void copy_net(struct net *to, const struct net *from)
@@ -583,7 +583,7 @@ static uint64_t odd_value(const struct place *place, uint64_t old)
     }
 }
 
-/* Another number somewhere. */
+/* Another number somewhere; a parent less often, as few nodes have room. */
 static void change_number(struct net *net, int odd)
 {
     struct fields fields;
@@ -596,6 +596,8 @@ static void change_number(struct net *net, int odd)
     if (count == 0)
         return;
     const struct place *place = &places[below(count)];
+    if (place->what == 'p')
+        place = &places[below(count)];
     write_number(net, place, odd ? odd_value(place, read_number(net, place)) : good_value(place));
 }
 
@@ -953,9 +955,11 @@ static void other_table(const struct net *net, size_t s, struct asked asked, con
     must(memcmp(again, plan, s) == 0, "another plan with a table of as many columns or more");
 }
 
-/* Nets that some plan can meet are kept in the pool. */
-static void keep_net(const struct net *net)
+/* Nets of which some plan meets timing are kept in the pool, those of one stage seldom. */
+static void keep_net(const struct net *net, size_t s)
 {
+    if (s == 1 && !one_in(10))
+        return;
     if (pooled < POOL)
         copy_net(&pool[pooled++], net);
     else if (one_in(6))
@@ -985,7 +989,7 @@ static void try_net(void)
     }
     if (found.refusal == 0 || found.refusal == 12) {
         other_table(&net, s, asked, &found, found_plan);
-        keep_net(&net);
+        keep_net(&net, s);
     }
 }
 
