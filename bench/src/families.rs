@@ -74,13 +74,11 @@ pub fn case(name: &str, shape: Shape, size: Size, times: Times) -> Case {
 // The tree
 // ------------------------------------------------------------------------------------------------
 
-/// A higher layer has less resistance and costs more.
-fn unit_resistance(layer: usize) -> i64 {
-    (900.0 * 0.8f64.powi(layer as i32)) as i64 + 1
-}
-
-fn price(layer: usize) -> i64 {
-    (4.0 * 1.2f64.powi(layer as i32)) as i64
+/// A higher layer has less resistance and costs more: from 901 down to 32 units, from 4 up to 61 a unit of length. However many
+/// layers there are, they lie evenly between the same first and last.
+fn layer(number: usize, layers: usize) -> (i64, i64) {
+    let height = 15.0 * number as f64 / (layers - 1).max(1) as f64;
+    ((900.0 * 0.8f64.powf(height)) as i64 + 1, (4.0 * 1.2f64.powf(height)) as i64)
 }
 
 struct Growing<'a> {
@@ -93,7 +91,7 @@ struct Growing<'a> {
 impl Growing<'_> {
     fn hang(&mut self, parent: usize, kind: Kind) -> usize {
         let length = self.random.between(1, 20);
-        let costs = (0..self.layers).map(|layer| length * price(layer)).collect();
+        let costs = (0..self.layers).map(|number| length * layer(number, self.layers).1).collect();
         self.nodes.push(Node { parent, length, costs, kind });
         self.children[parent] += 1;
         self.children.push(0);
@@ -128,7 +126,7 @@ impl Growing<'_> {
 
 /// Buffers by the shape, then sinks below what is childless, then Steiner points until the nodes are as many as asked.
 fn grown(shape: Shape, size: Size, random: &mut Random) -> Draft {
-    let layers: Vec<(i64, i64)> = (0..size.layers).map(|layer| (unit_resistance(layer), 10 + layer as i64)).collect();
+    let layers: Vec<(i64, i64)> = (0..size.layers).map(|number| (layer(number, size.layers).0, 10)).collect();
     let mut tree = Growing { nodes: vec![], children: vec![0], layers: layers.len(), random };
     let mut ends = vec![0];
     for stage in 1..size.stages {

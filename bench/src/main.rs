@@ -36,7 +36,7 @@ fn growing() -> Vec<(&'static str, usize, Case, Call)> {
     for stages in [4, 8, 16, 32, 64] {
         rows.push(("stages", stages, net(Size { stages, nodes: 4 * stages - 1, ..LIMITS }), quarter));
     }
-    for layers in [1, 2, 4, 8, 16] {
+    for layers in [2, 4, 8, 16] {
         rows.push(("layers", layers, net(Size { layers, ..LIMITS }), quarter));
     }
     rows
