@@ -1,5 +1,4 @@
-//! Links `libvorphiel.a` from the folder named by `VORPHIEL_LIB_DIR`, if any call of the library is
-//! to be compared.
+//! Links `libvorphiel.a` from the folder named by `VORPHIEL_LIB_DIR`, unless the library is left out.
 
 use std::env;
 use std::path::Path;
@@ -7,8 +6,7 @@ use std::path::Path;
 fn main() {
     println!("cargo:rerun-if-changed=build.rs");
     println!("cargo:rerun-if-env-changed=VORPHIEL_LIB_DIR");
-    let calls = ["CHECK", "JUDGE", "PLAN"];
-    if !calls.iter().any(|call| env::var_os(format!("CARGO_FEATURE_{call}")).is_some()) {
+    if env::var_os("CARGO_FEATURE_LIBRARY").is_none() {
         return;
     }
     let Ok(folder) = env::var("VORPHIEL_LIB_DIR") else {

@@ -1,28 +1,13 @@
 //! One call, compared: what an implementation answers and leaves in the lent buffers, against what 01 says.
 
 use crate::by_front::Fronts;
+use crate::host::{Host, Interface};
 use crate::nets::Random;
 use crate::plain::{self, Checked, Enumeration, Judged, Net, Planned, Search};
 
-/// The calls an implementation has.
-#[derive(Clone, Copy)]
-pub struct Calls {
-    pub check: bool,
-    pub judge: bool,
-    pub plan: bool,
-}
-
-/// An implementation of 01: the library, or one written to be wrong.
-pub trait Planner {
-    fn calls(&self) -> Calls;
-    fn check(&mut self, net: &[u8]) -> Checked;
-    fn judge(&mut self, net: &[u8], plan: &[u8]) -> Judged;
-    fn plan(&mut self, net: &[u8], p: u64, q: u64, table: &mut [i64], plan: &mut [u8]) -> Planned;
-
-    /// What else was wrong with the last call.
-    fn complaint(&mut self) -> Option<String> {
-        None
-    }
+/// Bytes in hexadecimal.
+pub fn hex(bytes: &[u8]) -> String {
+    bytes.iter().map(|byte| format!("{byte:02x}")).collect()
 }
 
 /// The first call that was answered wrongly.
@@ -35,18 +20,22 @@ pub struct Failure {
 
 pub type Outcome = Result<(), Failure>;
 
+// ------------------------------------------------------------------------------------------------
+// A net and what is known about it
+// ------------------------------------------------------------------------------------------------
+
 /// A net with all that is known about it.
 pub struct Case {
     pub name: String,
     pub bytes: Vec<u8>,
     pub read: Result<Net, u8>,
     search: Option<Box<dyn Search>>,
-    /// The most columns for which the search decides; without limit if every plan was looked at.
+    /// The most columns for which the search decides; without limit if every k was worked out.
     widest: i128,
 }
 
-/// Nets with no more plans than this are searched by looking at each.
-const MOST_PLANS: u128 = 5_000;
+/// Nets with no more plans than this, each plan counted once for each node, are searched by looking at each.
+const MOST_PLANS: u128 = 60_000;
 
 impl Case {
     /// For check and judge.
@@ -59,12 +48,12 @@ impl Case {
     pub fn searched(name: &str, bytes: &[u8], widest: i128) -> Case {
         let mut case = Case::new(name, bytes);
         if let Ok(net) = &case.read {
-            let few = (net.layers.len() as u128).checked_pow(plain::stage_count(net) as u32);
-            if few.is_some_and(|plans| plans <= MOST_PLANS) {
+            let plans = (net.layers.len() as u128).saturating_pow(plain::stage_count(net) as u32);
+            if plans.saturating_mul(net.nodes.len() as u128) <= MOST_PLANS {
                 case.search = Some(Box::new(Enumeration::new(net)));
             } else {
                 let fronts = Fronts::new(net, widest);
-                if fronts.reach() > 0 {
+                if fronts.any() && fronts.reach() > 0 {
                     case.widest = widest;
                 }
                 case.search = Some(Box::new(fronts));
@@ -81,196 +70,256 @@ impl Case {
         self.read.as_ref().map_or(0, |net| net.layers.len())
     }
 
-    /// Does some plan meet timing?
-    pub fn can_be_met(&self) -> bool {
-        self.search.as_ref().is_some_and(|search| search.any())
+    pub fn widest(&self) -> i128 {
+        self.widest
+    }
+
+    /// What is known about the plans that meet timing; nothing if there is none.
+    pub fn search(&self) -> Option<&dyn Search> {
+        self.search.as_deref().filter(|search| search.any())
     }
 
     /// The columns needed for a share, if they are known.
     pub fn needed_columns(&self, p: u64, q: u64) -> Option<i128> {
-        let search = self.search.as_ref().filter(|search| search.any())?;
-        let needed = search.least_rounded(plain::grain(&**search, self.stages(), p, q)) + 1;
+        let search = self.search()?;
+        let needed = search.least_rounded(plain::grain(search, self.stages(), p, q)) + 1;
         (needed <= self.widest).then_some(needed)
     }
 
-    pub fn widest(&self) -> i128 {
-        self.widest
+    /// What check answers.
+    fn checked(&self) -> Checked {
+        match &self.read {
+            Err(refusal) => Checked { refusal: *refusal, ..Default::default() },
+            Ok(net) => plain::check_net(net),
+        }
+    }
+
+    /// What judge answers.
+    fn judged(&self, plan: &[u8]) -> Judged {
+        match &self.read {
+            Err(refusal) => Judged { refusal: *refusal, ..Default::default() },
+            Ok(net) => plain::judge_net(net, plan),
+        }
+    }
+
+    /// What planning answers and leaves in table and buffer.
+    pub fn planned(&self, asked: &Asked) -> Left {
+        let (mut table, mut buffer) = (asked.table.clone(), asked.buffer.clone());
+        let answer = match &self.read {
+            Err(refusal) => Planned { refusal: *refusal, ..Default::default() },
+            Ok(net) => {
+                let columns = plain::columns(table.len(), self.stages());
+                assert!(columns <= self.widest, "the search decides no such table");
+                let search = self.search.as_deref().expect("a searched net");
+                plain::plan_net(net, search, asked.p, asked.q, &mut table, &mut buffer)
+            }
+        };
+        Left { answer, table, buffer }
     }
 }
 
+// ------------------------------------------------------------------------------------------------
+// A planning call
+// ------------------------------------------------------------------------------------------------
+
+/// What planning is asked besides the net, and what table and buffer hold beforehand.
+pub struct Asked {
+    pub p: u64,
+    pub q: u64,
+    pub table: Vec<i64>,
+    pub buffer: Vec<u8>,
+    /// The garbage in the table: its kind and seed. None: what the same call left there.
+    garbage: Option<(usize, u64)>,
+}
+
+/// What planning answers, and what table and buffer hold afterwards.
+pub struct Left {
+    pub answer: Planned,
+    pub table: Vec<i64>,
+    pub buffer: Vec<u8>,
+}
+
+impl Asked {
+    fn words(&self) -> String {
+        let Asked { p, q, table, buffer, .. } = self;
+        format!("share {p}/{q}, table {}, buffer {}", table.len(), buffer.len())
+    }
+
+    /// What table and buffer hold.
+    fn contents(&self) -> String {
+        let table = match self.garbage {
+            Some((kind, seed)) => format!("garbage {:?} of seed {seed}", GARBAGE[kind]),
+            None => String::from("what the same call has left there"),
+        };
+        format!("table {table}, buffer {:?}", self.buffer)
+    }
+}
+
+/// What a host may have left in a table.
+const GARBAGE: &[&str] = &["any", "ends of the range", "small", "like times", "-1", "0", "largest", "least"];
+
+fn garbage(kind: usize, seed: u64, length: usize) -> Vec<i64> {
+    let mut random = Random::new(seed);
+    let mut entry = || match kind {
+        0 => random.next() as i64,
+        1 => *random.pick(&[i64::MIN, i64::MAX, -1, 1]),
+        2 => random.between(1, 1_000),
+        3 => random.between(-1_000_000_000_000_000, 1_000_000_000_000_000),
+        _ => [-1, 0, i64::MAX, i64::MIN][kind - 4],
+    };
+    (0..length).map(|_| entry()).collect()
+}
+
+/// What is wrong with what a planning call gave and left.
+pub fn faults(case: &Case, asked: &Asked, expected: &Left, found: &Left) -> Vec<String> {
+    let mut faults = vec![];
+    let besides_floor = |answer: Planned| Planned { floor: 0, ..answer };
+    if besides_floor(found.answer) != besides_floor(expected.answer) {
+        faults.push(String::from("the answer"));
+    }
+    if !floor_permitted(case, asked, expected, found.answer.floor) {
+        faults.push(String::from("the floor"));
+    }
+    if found.buffer != expected.buffer {
+        faults.push(String::from("the plan buffer"));
+    }
+    if let Some(place) = (0..found.table.len()).find(|&place| found.table[place] != expected.table[place]) {
+        let (before, wanted, there) = (asked.table[place], expected.table[place], found.table[place]);
+        faults.push(format!("the table, first at entry {place}: {before} before, {wanted} expected, {there} found"));
+    }
+    faults
+}
+
+/// 0 beside a refusal, else between its two bounds.
+fn floor_permitted(case: &Case, asked: &Asked, expected: &Left, floor: u64) -> bool {
+    if expected.answer.refusal != 0 {
+        return floor == 0;
+    }
+    let cheapest = case.search().expect("a plan that meets timing").known_cost();
+    plain::permitted_floor(asked.p, asked.q, expected.answer.cost, floor, cheapest)
+}
+
+/// The report of a planning call: parameters, expected, found.
+fn plan_details(case: &Case, asked: &Asked, expected: &Left, found: &Left) -> String {
+    let said = |left: &Left, floor: String| {
+        let Planned { refusal, cost, slack, k, .. } = left.answer;
+        format!("refusal {refusal} cost {cost} slack {slack} k {k} floor {floor} buffer {:?}", left.buffer)
+    };
+    let floors = match case.search().filter(|_| expected.answer.refusal == 0) {
+        None => String::from("0"),
+        Some(search) => {
+            let (Asked { p, q, .. }, cost) = (asked, expected.answer.cost);
+            format!("from {q} x {cost} / ({q} + {p}) to {}", search.known_cost())
+        }
+    };
+    let (expected, found) = (said(expected, floors), said(found, found.answer.floor.to_string()));
+    format!("before:   {}\nexpected: {expected}\nfound:    {found}", asked.contents())
+}
+
+// ------------------------------------------------------------------------------------------------
+// The comparison
+// ------------------------------------------------------------------------------------------------
+
 /// Compares call after call, and counts.
-pub struct Comparison<'a> {
-    planner: &'a mut dyn Planner,
-    pub calls: Calls,
+pub struct Comparison {
+    host: Host,
     pub passed: u64,
     noise: Random,
     /// Says each call on standard error before it is made.
     trace: bool,
 }
 
-impl<'a> Comparison<'a> {
-    pub fn new(planner: &'a mut dyn Planner, trace: bool) -> Comparison<'a> {
-        let calls = planner.calls();
-        Comparison { planner, calls, passed: 0, noise: Random::new(77), trace }
+impl Comparison {
+    pub fn new(interface: Interface, trace: bool) -> Comparison {
+        Comparison { host: Host::new(interface), passed: 0, noise: Random::new(77), trace }
     }
 
     /// Check, against the plain search.
     pub fn check(&mut self, case: &Case) -> Outcome {
-        let expected = match &case.read {
-            Err(refusal) => Checked { refusal: *refusal, ..Default::default() },
-            Ok(net) => Checked {
-                refusal: 0,
-                nodes: net.nodes.len() as u64,
-                stages: plain::stage_count(net) as u64,
-                layers: net.layers.len() as u64,
-            },
-        };
-        self.check_gives(case, expected)
+        self.check_gives(case, case.checked())
     }
 
     /// Check, against a given answer.
     pub fn check_gives(&mut self, case: &Case, expected: Checked) -> Outcome {
-        if !self.calls.check {
-            return Ok(());
-        }
-        let call = format!("check, {}", case.name);
-        self.say(&call, case);
-        let found = self.planner.check(&case.bytes);
+        let call = || format!("check, {}", case.name);
+        self.say(call, case);
+        let found = self.host.check(&case.bytes);
         let faults = if found == expected { vec![] } else { vec![String::from("the answer")] };
-        self.settle(call, case, &faults, format!("{expected:?}"), format!("{found:?}"))
+        self.settle(call, case, faults, || format!("expected: {expected:?}\nfound:    {found:?}"))
     }
 
     /// Judge, against the plain search.
     pub fn judge(&mut self, case: &Case, plan: &[u8]) -> Outcome {
-        let expected = match &case.read {
-            Err(refusal) => Judged { refusal: *refusal, ..Default::default() },
-            Ok(net) => plain::judge_net(net, plan),
-        };
-        self.judge_gives(case, plan, expected)
+        self.judge_gives(case, plan, case.judged(plan))
     }
 
     /// Judge, against a given answer.
     pub fn judge_gives(&mut self, case: &Case, plan: &[u8], expected: Judged) -> Outcome {
-        if !self.calls.judge {
-            return Ok(());
-        }
-        let call = format!("judge, {}, plan {plan:?}", case.name);
-        self.say(&call, case);
-        let found = self.planner.judge(&case.bytes, plan);
+        let call = || format!("judge, {}, plan {plan:?}", case.name);
+        self.say(call, case);
+        let found = self.host.judge(&case.bytes, plan);
         let faults = if found == expected { vec![] } else { vec![String::from("the answer")] };
-        self.settle(call, case, &faults, format!("{expected:?}"), format!("{found:?}"))
+        self.settle(call, case, faults, || format!("expected: {expected:?}\nfound:    {found:?}"))
     }
 
     /// Plan, against the plain search: the answer, every byte of the buffer, every entry of the table.
     pub fn plan(&mut self, case: &Case, p: u64, q: u64, table_len: usize, buffer_len: usize) -> Outcome {
-        if !self.calls.plan {
-            return Ok(());
-        }
-        let (table, buffer) = (self.garbage(table_len), self.garbage_bytes(buffer_len));
-        let (mut table_after, mut buffer_after) = (table.clone(), buffer.clone());
-        let expected = match &case.read {
-            Err(refusal) => Planned { refusal: *refusal, ..Default::default() },
-            Ok(net) => {
-                assert!(
-                    plain::columns(table_len, plain::stage_count(net)) <= case.widest,
-                    "the search decides no such table"
-                );
-                let search = case.search.as_ref().expect("a searched net");
-                plain::plan_net(net, &**search, p, q, &mut table_after, &mut buffer_after)
-            }
-        };
-        self.plan_gives(case, p, q, (table, table_after), (buffer, buffer_after), expected)
+        let asked = self.asked(p, q, table_len, buffer_len);
+        self.plan_gives(case, &asked, &case.planned(&asked))
     }
 
-    /// Plan, against a given answer. Table and buffer: before, and expected after. The floor is held to its two bounds.
-    pub fn plan_gives(
-        &mut self,
-        case: &Case,
-        p: u64,
-        q: u64,
-        table: (Vec<i64>, Vec<i64>),
-        buffer: (Vec<u8>, Vec<u8>),
-        expected: Planned,
-    ) -> Outcome {
-        if !self.calls.plan {
-            return Ok(());
-        }
-        let (table_len, buffer_len) = (table.0.len(), buffer.0.len());
-        let call = format!("plan, {}, share {p}/{q}, table {table_len}, buffer {buffer_len}", case.name);
-        self.say(&call, case);
-        let (mut found_table, mut found_buffer) = (table.0.clone(), buffer.0.clone());
-        let found = self.planner.plan(&case.bytes, p, q, &mut found_table, &mut found_buffer);
+    /// The same call twice, the second time with what the first left in table and buffer.
+    pub fn plan_twice(&mut self, case: &Case, p: u64, q: u64, table_len: usize, buffer_len: usize) -> Outcome {
+        let first = self.asked(p, q, table_len, buffer_len);
+        let left = case.planned(&first);
+        self.plan_gives(case, &first, &left)?;
+        let again = Asked { p, q, table: left.table, buffer: left.buffer, garbage: None };
+        self.plan_gives(case, &again, &case.planned(&again))
+    }
 
-        let mut faults = vec![];
-        if (found.refusal, found.cost, found.slack, found.k)
-            != (expected.refusal, expected.cost, expected.slack, expected.k)
-        {
-            faults.push(String::from("the answer"));
-        }
-        // The floor: 0 beside a refusal, else between its two bounds.
-        let mut floors = String::from("0");
-        let mut floor_is_right = found.floor == 0;
-        if expected.refusal == 0 {
-            let cheapest = case.search.as_ref().expect("a searched net").known_cost();
-            floors = format!("from {q} x {} / ({q} + {p}) to {cheapest}", expected.cost);
-            floor_is_right = plain::permitted_floor(p, q, expected.cost, found.floor, cheapest);
-        }
-        if !floor_is_right {
-            faults.push(String::from("the floor"));
-        }
-        if found_buffer != buffer.1 {
-            faults.push(String::from("the plan buffer"));
-        }
-        if let Some(place) = (0..table_len).find(|&place| found_table[place] != table.1[place]) {
-            let (wanted, there) = (table.1[place], found_table[place]);
-            faults.push(format!("the table, first at entry {place}: {wanted} expected, {there} found"));
-        }
-        let Planned { refusal, cost, slack, k, .. } = expected;
-        let (before, after) = buffer;
-        let expected = format!(
-            "refusal {refusal} cost {cost} slack {slack} k {k} floor {floors} buffer {after:?} (before: {before:?})"
-        );
-        let Planned { refusal, cost, slack, k, floor } = found;
-        let found = format!("refusal {refusal} cost {cost} slack {slack} k {k} floor {floor} buffer {found_buffer:?}");
-        self.settle(call, case, &faults, expected, found)
+    /// Plan, against a given answer. The floor is held to its two bounds.
+    pub fn plan_gives(&mut self, case: &Case, asked: &Asked, expected: &Left) -> Outcome {
+        let call = || format!("plan, {}, {}", case.name, asked.words());
+        self.say(|| format!("{}\n  {}", call(), asked.contents()), case);
+        let (mut table, mut buffer) = (asked.table.clone(), asked.buffer.clone());
+        let answer = self.host.plan(&case.bytes, asked.p, asked.q, &mut table, &mut buffer);
+        let found = Left { answer, table, buffer };
+        let faults = faults(case, asked, expected, &found);
+        self.settle(call, case, faults, || plan_details(case, asked, expected, &found))
+    }
+
+    /// The parameters of a planning call, with garbage in table and buffer.
+    pub fn asked(&mut self, p: u64, q: u64, table_len: usize, buffer_len: usize) -> Asked {
+        let (kind, seed) = (self.noise.below(GARBAGE.len()), self.noise.next());
+        // The buffer holds no layer numbers, or some that may be a plan.
+        let no_layers = self.noise.one_in(2);
+        let byte = |random: &mut Random| if no_layers { random.next() as u8 | 0x80 } else { random.below(4) as u8 };
+        let buffer = (0..buffer_len).map(|_| byte(&mut self.noise)).collect();
+        Asked { p, q, table: garbage(kind, seed, table_len), buffer, garbage: Some((kind, seed)) }
     }
 
     /// Counts a call that passed, or reports one that did not.
-    fn settle(&mut self, call: String, case: &Case, faults: &[String], expected: String, found: String) -> Outcome {
-        let mut faults = faults.to_vec();
-        faults.extend(self.planner.complaint());
+    fn settle(
+        &mut self,
+        call: impl Fn() -> String,
+        case: &Case,
+        mut faults: Vec<String>,
+        details: impl Fn() -> String,
+    ) -> Outcome {
+        faults.extend(self.host.complaint());
         if faults.is_empty() {
             self.passed += 1;
             return Ok(());
         }
-        let net: String = case.bytes.iter().map(|byte| format!("{byte:02x}")).collect();
+        let (call, wrong, net) = (call(), faults.join("; "), hex(&case.bytes));
         let report =
-            format!("FAILED {call}\nwrong: {}\nnet: {net}\nexpected: {expected}\nfound:    {found}", faults.join("; "));
+            format!("FAILED call {}: {call}\nwrong:    {wrong}\nnet:      {net}\n{}", self.passed + 1, details());
         Err(Failure { call, report })
     }
 
-    fn say(&self, call: &str, case: &Case) {
+    fn say(&self, call: impl Fn() -> String, case: &Case) {
         if self.trace {
-            let net: String = case.bytes.iter().map(|byte| format!("{byte:02x}")).collect();
-            eprintln!("{call}\n  net {net}");
+            eprintln!("{}\n  net {}", call(), hex(&case.bytes));
         }
-    }
-
-    /// What a host may have left in a table.
-    pub fn garbage(&mut self, length: usize) -> Vec<i64> {
-        let random = &mut self.noise;
-        let way = random.below(4);
-        let mut entry = || match way {
-            0 => random.next() as i64,
-            1 => *random.pick(&[i64::MIN, i64::MAX, -1, 1]),
-            2 => random.between(1, 1_000),
-            _ => -1,
-        };
-        (0..length).map(|_| entry()).collect()
-    }
-
-    /// What a host may have left in a plan buffer.
-    pub fn garbage_bytes(&mut self, length: usize) -> Vec<u8> {
-        (0..length).map(|_| self.noise.next() as u8 | 0x80).collect()
     }
 }

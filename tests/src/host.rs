@@ -1,73 +1,107 @@
-//! The library, as a host in another language sees it: the C interface behind a safe wrapper.
+//! The calls of include/vorphiel.h as a host in another language makes them: those of the linked library, or those of
+//! a wrong planner.
 //!
 //! Every lent buffer is a copy with a margin of known values on both sides, and every result begins as rubbish. A
 //! write outside a buffer, or into one that is only to be read, is reported by `complaint`.
 
-use crate::compare::{Calls, Planner};
 use crate::plain::{Checked, Judged, Planned};
 
-#[allow(dead_code)]
-extern "C" {
-    #[cfg(feature = "check")]
-    fn vorphiel_check(net: *const u8, net_len: usize, nodes: *mut u64, stages: *mut u64, layers: *mut u64) -> u8;
+pub type Check =
+    unsafe extern "C" fn(net: *const u8, net_len: usize, nodes: *mut u64, stages: *mut u64, layers: *mut u64) -> u8;
 
-    #[cfg(feature = "judge")]
-    fn vorphiel_judge(
-        net: *const u8,
-        net_len: usize,
-        plan: *const u8,
-        plan_len: usize,
-        cost: *mut u64,
-        slack: *mut i64,
-    ) -> u8;
+pub type Judge = unsafe extern "C" fn(
+    net: *const u8,
+    net_len: usize,
+    plan: *const u8,
+    plan_len: usize,
+    cost: *mut u64,
+    slack: *mut i64,
+) -> u8;
 
-    #[cfg(feature = "plan")]
-    fn vorphiel_plan(
-        net: *const u8,
-        net_len: usize,
-        p: u64,
-        q: u64,
-        table: *mut i64,
-        table_len: usize,
-        plan: *mut u8,
-        plan_len: usize,
-        cost: *mut u64,
-        slack: *mut i64,
-        k: *mut u64,
-        floor: *mut u64,
-    ) -> u8;
+pub type Plan = unsafe extern "C" fn(
+    net: *const u8,
+    net_len: usize,
+    p: u64,
+    q: u64,
+    table: *mut i64,
+    table_len: usize,
+    plan: *mut u8,
+    plan_len: usize,
+    cost: *mut u64,
+    slack: *mut i64,
+    k: *mut u64,
+    floor: *mut u64,
+) -> u8;
+
+/// The three calls of an implementation.
+#[derive(Clone, Copy)]
+pub struct Interface {
+    pub check: Check,
+    pub judge: Judge,
+    pub plan: Plan,
 }
 
-/// The calls that this build has.
-pub const CALLS: Calls =
-    Calls { check: cfg!(feature = "check"), judge: cfg!(feature = "judge"), plan: cfg!(feature = "plan") };
-
-#[derive(Default)]
-pub struct Library {
-    complaint: Option<String>,
+/// The linked library's.
+#[cfg(feature = "library")]
+pub fn linked() -> Option<Interface> {
+    extern "C" {
+        fn vorphiel_check(net: *const u8, length: usize, nodes: *mut u64, stages: *mut u64, layers: *mut u64) -> u8;
+        fn vorphiel_judge(
+            net: *const u8,
+            net_len: usize,
+            plan: *const u8,
+            plan_len: usize,
+            cost: *mut u64,
+            slack: *mut i64,
+        ) -> u8;
+        fn vorphiel_plan(
+            net: *const u8,
+            net_len: usize,
+            p: u64,
+            q: u64,
+            table: *mut i64,
+            table_len: usize,
+            plan: *mut u8,
+            plan_len: usize,
+            cost: *mut u64,
+            slack: *mut i64,
+            k: *mut u64,
+            floor: *mut u64,
+        ) -> u8;
+    }
+    Some(Interface { check: vorphiel_check, judge: vorphiel_judge, plan: vorphiel_plan })
 }
 
-/// How many entries stand on either side of a lent buffer.
-#[allow(dead_code)]
-const MARGIN: usize = 24;
+/// This build has none.
+#[cfg(not(feature = "library"))]
+pub fn linked() -> Option<Interface> {
+    None
+}
+
+/// How many cells stand on either side of a lent buffer or result; odd, so that nothing is aligned by chance.
+const MARGIN: usize = 25;
+
+/// What stands there.
+const NET_EDGE: u8 = 0xC3;
+const PLAN_EDGE: u8 = 0x3C;
+const TABLE_EDGE: i64 = 0x0123_4567_89AB_CDEF;
+const RESULT_EDGE: u64 = 0xFEDC_BA98_7654_3210;
 
 /// A result before the call.
-#[allow(dead_code)]
 const RUBBISH: u64 = 0x5A5A_A5A5_1234_8765;
 
 /// A copy of a buffer with margins.
-#[allow(dead_code)]
 struct Lent<T> {
+    name: &'static str,
     cells: Vec<T>,
     length: usize,
     edge: T,
 }
 
-#[allow(dead_code)]
 impl<T: Copy + PartialEq> Lent<T> {
-    fn new(content: &[T], edge: T) -> Lent<T> {
+    fn new(name: &'static str, content: &[T], edge: T) -> Lent<T> {
         let margin = [edge; MARGIN];
-        Lent { cells: [&margin[..], content, &margin[..]].concat(), length: content.len(), edge }
+        Lent { name, cells: [&margin[..], content, &margin[..]].concat(), length: content.len(), edge }
     }
 
     fn start(&mut self) -> *mut T {
@@ -78,104 +112,106 @@ impl<T: Copy + PartialEq> Lent<T> {
         &self.cells[MARGIN..MARGIN + self.length]
     }
 
-    fn margins_kept(&self) -> bool {
+    /// A write beside the buffer.
+    fn beside(&self) -> Option<String> {
         let (before, after) = (&self.cells[..MARGIN], &self.cells[MARGIN + self.length..]);
-        before.iter().chain(after).all(|cell| *cell == self.edge)
+        let kept = before.iter().chain(after).all(|cell| *cell == self.edge);
+        (!kept).then(|| format!("memory beside the {} was changed", self.name))
+    }
+
+    /// A write into or beside a buffer that is only to be read.
+    fn written(&self, content: &[T]) -> Option<String> {
+        let changed = (self.content() != content).then(|| format!("the {} was changed", self.name));
+        changed.or_else(|| self.beside())
     }
 }
 
-#[allow(dead_code)]
-impl Library {
-    /// After a call: buffers only to be read are as before.
-    fn look_at_read(&mut self, name: &str, lent: &Lent<u8>, before: &[u8]) {
-        if lent.content() != before {
-            self.complaint = Some(format!("the {name} was changed"));
-        }
-        self.look_at_margins(name, lent);
-    }
-
-    /// After a call: nothing was written beside a buffer.
-    fn look_at_margins<T: Copy + PartialEq>(&mut self, name: &str, lent: &Lent<T>) {
-        if !lent.margins_kept() {
-            self.complaint = Some(format!("bytes beside the {name} were changed"));
-        }
-    }
+/// A result of a call, rubbish at first.
+fn result(name: &'static str) -> Lent<u64> {
+    Lent::new(name, &[RUBBISH], RESULT_EDGE)
 }
 
-#[allow(unused_variables)]
-impl Planner for Library {
-    fn calls(&self) -> Calls {
-        CALLS
+/// Makes calls, and notes what was wrong with them besides their answers.
+pub struct Host {
+    interface: Interface,
+    complaint: Option<String>,
+}
+
+impl Host {
+    pub fn new(interface: Interface) -> Host {
+        Host { interface, complaint: None }
     }
 
-    fn complaint(&mut self) -> Option<String> {
+    /// What else was wrong with the last call.
+    pub fn complaint(&mut self) -> Option<String> {
         self.complaint.take()
     }
 
-    fn check(&mut self, net: &[u8]) -> Checked {
-        #[cfg(feature = "check")]
-        {
-            let mut lent = Lent::new(net, 0xC3);
-            let (mut nodes, mut stages, mut layers) = (RUBBISH, RUBBISH, RUBBISH);
-            // Safe: the pointers are to memory of the stated lengths that lives through the call.
-            let refusal = unsafe { vorphiel_check(lent.start(), net.len(), &mut nodes, &mut stages, &mut layers) };
-            self.look_at_read("net", &lent, net);
-            return Checked { refusal, nodes, stages, layers };
-        }
-        #[cfg(not(feature = "check"))]
-        panic!("check is not compared")
+    pub fn check(&mut self, net: &[u8]) -> Checked {
+        let mut lent = Lent::new("net", net, NET_EDGE);
+        let (mut nodes, mut stages, mut layers) = (result("nodes"), result("stages"), result("layers"));
+        // Safe: the pointers are to memory of the stated lengths that lives through the call.
+        let refusal =
+            unsafe { (self.interface.check)(lent.start(), net.len(), nodes.start(), stages.start(), layers.start()) };
+        self.complaint = lent.written(net);
+        let [nodes, stages, layers] = self.results([&nodes, &stages, &layers]);
+        Checked { refusal, nodes, stages, layers }
     }
 
-    fn judge(&mut self, net: &[u8], plan: &[u8]) -> Judged {
-        #[cfg(feature = "judge")]
-        {
-            let mut lent = Lent::new(net, 0xC3);
-            let mut lent_plan = Lent::new(plan, 0x3C);
-            let (mut cost, mut slack) = (RUBBISH, RUBBISH as i64);
-            // Safe: as above.
-            let refusal = unsafe {
-                vorphiel_judge(lent.start(), net.len(), lent_plan.start(), plan.len(), &mut cost, &mut slack)
-            };
-            self.look_at_read("net", &lent, net);
-            self.look_at_read("plan", &lent_plan, plan);
-            return Judged { refusal, cost, slack };
-        }
-        #[cfg(not(feature = "judge"))]
-        panic!("judge is not compared")
+    pub fn judge(&mut self, net: &[u8], plan: &[u8]) -> Judged {
+        let mut lent = Lent::new("net", net, NET_EDGE);
+        let mut lent_plan = Lent::new("plan", plan, PLAN_EDGE);
+        let (mut cost, mut slack) = (result("cost"), result("slack"));
+        // Safe: as above.
+        let refusal = unsafe {
+            (self.interface.judge)(
+                lent.start(),
+                net.len(),
+                lent_plan.start(),
+                plan.len(),
+                cost.start(),
+                slack.start().cast(),
+            )
+        };
+        self.complaint = lent.written(net).or_else(|| lent_plan.written(plan));
+        let [cost, slack] = self.results([&cost, &slack]);
+        Judged { refusal, cost, slack: slack as i64 }
     }
 
-    fn plan(&mut self, net: &[u8], p: u64, q: u64, table: &mut [i64], plan: &mut [u8]) -> Planned {
-        #[cfg(feature = "plan")]
-        {
-            let mut lent = Lent::new(net, 0xC3);
-            let mut lent_table = Lent::new(table, 0x0123_4567_89AB_CDEF);
-            let mut lent_plan = Lent::new(plan, 0x3C);
-            let (mut cost, mut slack, mut k, mut floor) = (RUBBISH, RUBBISH as i64, RUBBISH, RUBBISH);
-            // Safe: as above, and no two of the buffers overlap.
-            let refusal = unsafe {
-                vorphiel_plan(
-                    lent.start(),
-                    net.len(),
-                    p,
-                    q,
-                    lent_table.start(),
-                    table.len(),
-                    lent_plan.start(),
-                    plan.len(),
-                    &mut cost,
-                    &mut slack,
-                    &mut k,
-                    &mut floor,
-                )
-            };
-            self.look_at_read("net", &lent, net);
-            self.look_at_margins("table", &lent_table);
-            self.look_at_margins("plan buffer", &lent_plan);
-            table.copy_from_slice(lent_table.content());
-            plan.copy_from_slice(lent_plan.content());
-            return Planned { refusal, cost, slack, k, floor };
+    pub fn plan(&mut self, net: &[u8], p: u64, q: u64, table: &mut [i64], plan: &mut [u8]) -> Planned {
+        let mut lent = Lent::new("net", net, NET_EDGE);
+        let mut lent_table = Lent::new("table", table, TABLE_EDGE);
+        let mut lent_plan = Lent::new("plan buffer", plan, PLAN_EDGE);
+        let (mut cost, mut slack, mut k, mut floor) = (result("cost"), result("slack"), result("k"), result("floor"));
+        // Safe: as above, and no two of the buffers overlap.
+        let refusal = unsafe {
+            (self.interface.plan)(
+                lent.start(),
+                net.len(),
+                p,
+                q,
+                lent_table.start(),
+                table.len(),
+                lent_plan.start(),
+                plan.len(),
+                cost.start(),
+                slack.start().cast(),
+                k.start(),
+                floor.start(),
+            )
+        };
+        self.complaint = lent.written(net).or_else(|| lent_table.beside()).or_else(|| lent_plan.beside());
+        table.copy_from_slice(lent_table.content());
+        plan.copy_from_slice(lent_plan.content());
+        let [cost, slack, k, floor] = self.results([&cost, &slack, &k, &floor]);
+        Planned { refusal, cost, slack: slack as i64, k, floor }
+    }
+
+    /// The results of a call.
+    fn results<const N: usize>(&mut self, lent: [&Lent<u64>; N]) -> [u64; N] {
+        for result in lent {
+            self.complaint = self.complaint.take().or_else(|| result.beside());
         }
-        #[cfg(not(feature = "plan"))]
-        panic!("plan is not compared")
+        lent.map(|result| result.content()[0])
     }
 }

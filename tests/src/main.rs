@@ -5,20 +5,31 @@
 //!     vorphiel-tests --self [SEED [COUNT]]
 //!                                     no library: the plain search, the search by fronts and a third one, compared
 //!     vorphiel-tests --mutants        no library: wrong planners in its place; says which call exposed each
-//!     --trace before these            says each call on standard error before it is made
+//!     --trace before these            says each call on standard error before it is made: if the library breaks off or
+//!                                     does not come back, the last one is to blame
 
 use std::process::ExitCode;
-use vorphiel_tests::compare::{Calls, Comparison, Failure, Planner};
-use vorphiel_tests::plain::{Checked, Judged, Planned, Search};
-use vorphiel_tests::wrong::{Mistake, Wrong};
-use vorphiel_tests::{by_front, host, nets, plain, rows, runs, wrong};
+use vorphiel_tests::compare::{hex, Comparison, Failure};
+use vorphiel_tests::host::{linked, Interface};
+use vorphiel_tests::plain::{self, Search};
+use vorphiel_tests::wrong::{self, Mistake};
+use vorphiel_tests::{by_front, nets, runs};
 
-/// Without arguments: this seed and this many random nets.
+/// Without arguments: this seed and this many random nets; fewer for wrong planners, which must be exposed soon.
 const SEED: u64 = 1;
-const COUNT: usize = 450;
+const COUNT: usize = 900;
+const MUTANTS_COUNT: usize = 200;
 
-fn main() -> ExitCode {
-    let mut arguments: Vec<String> = std::env::args().skip(1).collect();
+/// What the command line asks.
+struct Options {
+    trace: bool,
+    mutants: bool,
+    own: bool,
+    seed: u64,
+    count: usize,
+}
+
+fn options(mut arguments: Vec<String>) -> Option<Options> {
     let mut take = |flag: &str| {
         let found = arguments.first().is_some_and(|first| first == flag);
         if found {
@@ -26,21 +37,26 @@ fn main() -> ExitCode {
         }
         found
     };
-    let trace = take("--trace");
-    let (mutants, own) = (take("--mutants"), take("--self"));
-    let numbers: Vec<u64> = arguments.iter().filter_map(|argument| argument.parse().ok()).collect();
-    if numbers.len() != arguments.len() || numbers.len() > 2 {
-        eprintln!("usage: vorphiel-tests [--trace] [--self | --mutants] [SEED [COUNT]]");
-        return ExitCode::from(2);
-    }
+    let (trace, mutants, own) = (take("--trace"), take("--mutants"), take("--self"));
+    let numbers: Option<Vec<u64>> = arguments.iter().map(|argument| argument.parse().ok()).collect();
+    let numbers = numbers.filter(|numbers| numbers.len() <= 2)?;
     let seed = numbers.first().copied().unwrap_or(SEED);
-    let count = numbers.get(1).map_or(COUNT, |&count| count as usize);
-    let well = if mutants {
-        all_exposed(seed, count)
-    } else if own {
-        compare_ourselves(seed, count)
+    let usual = if mutants { MUTANTS_COUNT } else { COUNT };
+    let count = numbers.get(1).map_or(usual, |&count| count as usize);
+    Some(Options { trace, mutants, own, seed, count })
+}
+
+fn main() -> ExitCode {
+    let Some(options) = options(std::env::args().skip(1).collect()) else {
+        eprintln!("usage: vorphiel-tests [--trace] [--mutants | --self] [SEED [COUNT]]");
+        return ExitCode::from(2);
+    };
+    let well = if options.mutants {
+        all_exposed(&options)
+    } else if options.own {
+        compare_ourselves(&options)
     } else {
-        compare_library(seed, count, trace)
+        compare_library(&options)
     };
     if well {
         ExitCode::SUCCESS
@@ -50,93 +66,57 @@ fn main() -> ExitCode {
 }
 
 /// One run over an implementation: how many calls passed, and the first that did not.
-fn run(planner: &mut dyn Planner, seed: u64, count: usize, trace: bool) -> (u64, Option<Failure>) {
-    let mut comparison = Comparison::new(planner, trace);
-    let outcome = runs::all(&mut comparison, seed, count);
+fn run(interface: Interface, options: &Options) -> (u64, Option<Failure>) {
+    let mut comparison = Comparison::new(interface, options.trace);
+    let outcome = runs::all(&mut comparison, options.seed, options.count);
     (comparison.passed, outcome.err())
 }
 
-fn told(passed: u64, failure: Option<Failure>) -> bool {
-    match failure {
-        None => println!("{passed} passed, 0 failed"),
-        Some(failure) => {
-            println!("{}", failure.report);
-            println!("{passed} passed, 1 failed");
-            return false;
-        }
-    }
-    true
+fn told((passed, failure): (u64, Option<Failure>), options: &Options) -> bool {
+    let Some(failure) = failure else {
+        println!("{passed} passed, 0 failed");
+        return true;
+    };
+    println!("{}", failure.report);
+    println!("{passed} passed, 1 failed (seed {}, {} random nets)", options.seed, options.count);
+    false
 }
 
-/// The library. With no call of it built in there is nothing to compare.
-fn compare_library(seed: u64, count: usize, trace: bool) -> bool {
-    let Calls { check, judge, plan } = host::CALLS;
-    if !check && !judge && !plan {
+/// The library.
+fn compare_library(options: &Options) -> bool {
+    let Some(library) = linked() else {
         println!("no library is linked: --self and --mutants can be run");
         return false;
-    }
-    let (passed, failure) = run(&mut host::Library::default(), seed, count, trace);
-    told(passed, failure)
+    };
+    told(run(library, options), options)
 }
 
-/// The plain search in the library's place.
-struct Plain;
-
-impl Planner for Plain {
-    fn calls(&self) -> Calls {
-        Calls { check: true, judge: true, plan: true }
-    }
-
-    fn check(&mut self, net: &[u8]) -> Checked {
-        plain::check(net)
-    }
-
-    fn judge(&mut self, net: &[u8], plan: &[u8]) -> Judged {
-        plain::judge(net, plan)
-    }
-
-    fn plan(&mut self, net: &[u8], p: u64, q: u64, table: &mut [i64], plan: &mut [u8]) -> Planned {
-        plain::plan(net, p, q, table, plan)
-    }
-}
-
-/// The plain search against the rows of 01; the search by fronts against it; a third planner, by a table of budgets,
-/// against both.
-fn compare_ourselves(seed: u64, count: usize) -> bool {
-    let mut search = Plain;
-    let mut comparison = Comparison::new(&mut search, false);
-    let outcome = rows::run(&mut comparison);
-    let passed = comparison.passed;
-    print!("plain search, rows of 01: ");
-    if !told(passed, outcome.err()) {
-        return false;
-    }
+/// The search by fronts against the plain search; a third planner, by a table of budgets, against both.
+fn compare_ourselves(options: &Options) -> bool {
     print!("fronts against the plain search: ");
-    let Some(met) = fronts_agree(seed, count) else { return false };
-    println!("{count} nets agree, {met} of them have a plan that meets timing");
+    let Some(met) = fronts_agree(options) else { return false };
+    println!("{} nets agree, {met} of them have a plan that meets timing", options.count);
     print!("a table of budgets against both: ");
-    let (passed, failure) = run(&mut Wrong { mistake: Mistake::None }, seed, count, false);
-    told(passed, failure)
+    told(run(wrong::interface(Mistake::None), options), options)
 }
 
 /// V(k) and the first plan for every k, by both searches, whole and stopped early. How many nets can be met.
-fn fronts_agree(seed: u64, count: usize) -> Option<usize> {
-    let mut random = nets::Random::new(seed ^ 0xF0);
+fn fronts_agree(options: &Options) -> Option<usize> {
+    let mut random = nets::Random::new(options.seed ^ 0xF0);
     let mut met = 0;
-    for number in 0..count {
+    for number in 0..options.count {
         let family = nets::SMALL_FAMILIES[number % nets::SMALL_FAMILIES.len()];
         let bytes = nets::random_net(family, &mut random).bytes();
         let net = plain::read(&bytes).expect("a whole net");
         let each = plain::Enumeration::new(&net);
         met += each.any() as usize;
         if each.any() && !columns_bounded(&each, plain::stage_count(&net)) {
-            println!("net {number} ({family}) needs more columns than 01 says");
+            println!("net {number} ({family}) needs more columns than 01 says: {}", hex(&bytes));
             return None;
         }
         for widest in [i128::MAX, 5] {
             if !agrees(&each, &by_front::Fronts::new(&net, widest), widest) {
-                let net: String = bytes.iter().map(|byte| format!("{byte:02x}")).collect();
-                println!("net {number} ({family}) differs: {net}");
+                println!("net {number} ({family}) differs: {}", hex(&bytes));
                 return None;
             }
         }
@@ -167,26 +147,23 @@ fn columns_bounded(each: &plain::Enumeration, s: usize) -> bool {
 }
 
 /// Each wrong planner must be exposed, and the one without a mistake must not.
-fn all_exposed(seed: u64, count: usize) -> bool {
-    let mut missed = 0;
-    for (mistake, words) in wrong::ALL {
-        let (passed, failure) = run(&mut Wrong { mistake: *mistake }, seed, count, false);
+fn all_exposed(options: &Options) -> bool {
+    let (mut exposed, mut missed) = (0, 0);
+    for mistake in Mistake::all() {
+        let (passed, failure) = run(wrong::interface(mistake), options);
         match failure {
-            Some(failure) => println!("exposed: {words}: call {}: {}", passed + 1, failure.call),
+            Some(failure) => {
+                println!("exposed: {}: call {}: {}", mistake.words(), passed + 1, failure.call);
+                exposed += 1;
+            }
             None => {
-                println!("NOT EXPOSED: {words}: {passed} calls passed");
+                println!("NOT EXPOSED: {}: {passed} calls passed", mistake.words());
                 missed += 1;
             }
         }
     }
-    let (passed, failure) = run(&mut Wrong { mistake: Mistake::None }, seed, count, false);
-    match failure {
-        None => println!("no mistake: {passed} calls passed"),
-        Some(failure) => {
-            println!("no mistake, but:\n{}", failure.report);
-            missed += 1;
-        }
-    }
-    println!("{} wrong planners exposed, {missed} not", wrong::ALL.len() as i32 - missed);
-    missed == 0
+    print!("no mistake: ");
+    let right = told(run(wrong::interface(Mistake::None), options), options);
+    println!("{exposed} wrong planners exposed, {missed} not");
+    right && missed == 0
 }

@@ -533,12 +533,17 @@ pub struct Planned {
 pub fn check(bytes: &[u8]) -> Checked {
     match read(bytes) {
         Err(refusal) => Checked { refusal, ..Default::default() },
-        Ok(net) => Checked {
-            refusal: 0,
-            nodes: net.nodes.len() as u64,
-            stages: stage_count(&net) as u64,
-            layers: net.layers.len() as u64,
-        },
+        Ok(net) => check_net(&net),
+    }
+}
+
+/// Check, once the net is read.
+pub fn check_net(net: &Net) -> Checked {
+    Checked {
+        refusal: 0,
+        nodes: net.nodes.len() as u64,
+        stages: stage_count(net) as u64,
+        layers: net.layers.len() as u64,
     }
 }
 
@@ -562,7 +567,6 @@ pub fn judge_net(net: &Net, plan: &[u8]) -> Judged {
 }
 
 /// Planning by looking at every plan.
-#[allow(dead_code)]
 pub fn plan(bytes: &[u8], p: u64, q: u64, table: &mut [i64], buffer: &mut [u8]) -> Planned {
     match read(bytes) {
         Err(refusal) => Planned { refusal, ..Default::default() },

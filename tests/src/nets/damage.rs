@@ -1,0 +1,302 @@
+//! Damaged nets.
+
+use super::draft::{Draft, Kind, Node, Place, Role};
+use super::named::{line, net_a, net_b};
+use super::Random;
+
+/// Bytes to be written over others.
+#[derive(Clone)]
+pub struct Edit {
+    pub what: String,
+    at: usize,
+    bytes: Vec<u8>,
+}
+
+impl Edit {
+    fn new(what: String, place: &Place, value: i128) -> Edit {
+        let bytes = value.to_be_bytes()[16 - place.width..].to_vec();
+        Edit { what, at: place.at, bytes }
+    }
+
+    pub fn apply(&self, net: &mut [u8]) {
+        for (place, byte) in self.bytes.iter().enumerate() {
+            if self.at + place < net.len() {
+                net[self.at + place] = *byte;
+            }
+        }
+    }
+}
+
+/// Every single fault (and some harmless change) that writes over one number of a whole net.
+pub fn edits(draft: &Draft) -> Vec<Edit> {
+    let (bytes, places) = draft.written();
+    let mut edits = vec![];
+    for place in &places {
+        let old = bytes[place.at..place.at + place.width].iter().fold(0i128, |n, &byte| n * 256 + byte as i128);
+        let values: Vec<i128> = match place.role {
+            Role::Tag => vec![0, 1, 2, 3, 4, 5, 6, 7, 255],
+            Role::Length => {
+                vec![0, 1, 4, 16, 60, 64, 65, 68, 65_535, old - 4, old - 1, old + 1, old + 4, old + 12, old + 256]
+            }
+            Role::Parent => parents_to_try(draft, place.field - 1),
+            Role::Number { low, high } => {
+                let (low, high) = (low as i128, high as i128);
+                let widest = (1i128 << (8 * place.width - 1)) - 1;
+                vec![low - 1, low, low + 1, high - 1, high, high + 1, -1, -2, widest, widest + 1, high + (1 << 16), 0]
+            }
+        };
+        let role = match place.role {
+            Role::Tag => "tag",
+            Role::Length => "length",
+            Role::Parent => "parent",
+            Role::Number { .. } => "number",
+        };
+        for value in values {
+            let what = format!("{role} {value} at byte {}", place.at);
+            edits.push(Edit::new(what, place, value));
+        }
+    }
+    edits
+}
+
+/// For a node: its own number, higher ones, every lower one (among them sinks and those that have two children).
+fn parents_to_try(draft: &Draft, number: usize) -> Vec<i128> {
+    let mut parents: Vec<i128> = (0..=draft.nodes.len() as i128 + 1).collect();
+    parents.retain(|&parent| parent <= number as i128 + 2 || parent >= draft.nodes.len() as i128);
+    parents.extend([255, 256, 257, 256 + number as i128 - 1, 65_535]);
+    parents
+}
+
+/// A name and bytes that need not be a net.
+type Named = (String, Vec<u8>);
+
+/// One net with each of its single faults, cut at each length, lengthened, and with several faults at once.
+pub fn damaged(draft: &Draft, random: &mut Random, several: usize) -> Vec<Named> {
+    let whole = draft.bytes();
+    let mut nets = vec![];
+    for length in 0..whole.len() {
+        nets.push((format!("cut to {length} bytes"), whole[..length].to_vec()));
+    }
+    for tail in tails(draft) {
+        nets.push((format!("followed by {tail:02x?}"), [&whole[..], &tail].concat()));
+    }
+    let edits = edits(draft);
+    for edit in &edits {
+        let mut net = whole.clone();
+        edit.apply(&mut net);
+        // A wrong length shows also where the payload is gone.
+        if edit.what.starts_with("length") || edit.what.starts_with("tag") {
+            nets.push((format!("{}, cut after it", edit.what), net[..(edit.at + 3).min(net.len())].to_vec()));
+        }
+        nets.push((edit.what.clone(), net));
+    }
+    nets.extend((0..several).map(|_| several_edits(&whole, &edits, random)));
+    nets.extend((0..several).map(|_| two_edits_near(draft, &edits, random)));
+    nets.extend(records_dropped(draft));
+    nets
+}
+
+/// Some edits anywhere, and sometimes a cut.
+fn several_edits(whole: &[u8], edits: &[Edit], random: &mut Random) -> Named {
+    let mut net = whole.to_vec();
+    let mut what = String::from("several:");
+    for _fault in 0..random.between(2, 4) {
+        let edit = random.pick(edits);
+        what += &format!(" {};", edit.what);
+        edit.apply(&mut net);
+    }
+    if random.one_in(3) {
+        let length = random.below(net.len() + 1);
+        what += &format!(" cut to {length} bytes");
+        net.truncate(length);
+    }
+    (what, net)
+}
+
+/// Two edits in the same node record: the order 3, 5 and the order of the bytes.
+fn two_edits_near(draft: &Draft, edits: &[Edit], random: &mut Random) -> Named {
+    let (mut net, places) = draft.written();
+    let field = random.between(2, draft.nodes.len() as i64 + 1) as usize;
+    let here: Vec<usize> = places.iter().filter(|place| place.field == field).map(|place| place.at).collect();
+    let near: Vec<&Edit> = edits.iter().filter(|edit| here.contains(&edit.at)).collect();
+    let (one, two) = (*random.pick(&near), *random.pick(&near));
+    one.apply(&mut net);
+    two.apply(&mut net);
+    (format!("both: {}; {}", one.what, two.what), net)
+}
+
+/// One net with each of its bits turned.
+pub fn bits_turned(draft: &Draft) -> Vec<Named> {
+    let whole = draft.bytes();
+    let turned = |bit: usize| {
+        let mut net = whole.clone();
+        net[bit / 8] ^= 1 << (bit % 8);
+        (format!("bit {} of byte {} turned", bit % 8, bit / 8), net)
+    };
+    (0..8 * whole.len()).map(turned).collect()
+}
+
+/// What may follow a whole net.
+fn tails(draft: &Draft) -> Vec<Vec<u8>> {
+    let layers = draft.layers.len();
+    let steiner = (4 + 4 * layers) as u8;
+    let sink = steiner + 12;
+    let payload = |length: u8| vec![0; length as usize];
+    vec![
+        vec![0],
+        vec![10],
+        vec![5],
+        vec![255],
+        vec![3, 0],
+        vec![9, 9],
+        vec![0, 0, 0],
+        vec![1, 0, 4],
+        vec![2, 0, 16],
+        vec![3, 0, steiner],
+        vec![4, 0, sink],
+        vec![5, 0, sink],
+        vec![5, 0, steiner],
+        vec![5, 1, sink],
+        vec![6, 0, steiner],
+        [vec![3, 0, steiner], payload(steiner - 1)].concat(),
+        [vec![3, 0, steiner], payload(steiner)].concat(),
+        [vec![5, 0, sink], payload(sink)].concat(),
+        draft.bytes(),
+    ]
+}
+
+/// Records left out, put twice, exchanged, and of another kind: childless nodes, moved numbers.
+fn records_dropped(draft: &Draft) -> Vec<Named> {
+    let mut nets = vec![];
+    for place in 0..draft.nodes.len() {
+        let mut fewer = draft.clone();
+        fewer.nodes.remove(place);
+        nets.push((format!("without node {}", place + 1), fewer.bytes()));
+        let mut more = draft.clone();
+        more.nodes.insert(place, draft.nodes[place].clone());
+        nets.push((format!("node {} twice", place + 1), more.bytes()));
+        for kind in [
+            Kind::Steiner,
+            Kind::Buffer { capacitance: 1, resistance: 2, intrinsic: 3 },
+            Kind::Sink { capacitance: 1, required: 5 },
+        ] {
+            let mut other = draft.clone();
+            other.nodes[place].kind = kind;
+            nets.push((format!("node {} of another kind", place + 1), other.bytes()));
+        }
+        if place > 0 {
+            let mut swapped = draft.clone();
+            swapped.nodes.swap(place - 1, place);
+            nets.push((format!("nodes {} and {} exchanged", place, place + 1), swapped.bytes()));
+        }
+    }
+    let mut alone = draft.clone();
+    alone.nodes.clear();
+    nets.push((String::from("layers and driver alone"), alone.bytes()));
+    nets
+}
+
+/// Lines at the limits of nodes and buffers, and one record beyond, whole and with a further fault in that record.
+pub fn too_many() -> Vec<Named> {
+    let mut nets = vec![];
+    let lines = [(0, 253), (0, 254), (0, 255), (0, 256), (62, 0), (63, 0), (63, 10), (63, 191), (63, 192)];
+    for (buffers, steiner) in [&lines[..], &[(64, 0), (64, 10), (65, 0)]].concat() {
+        let name = format!("a line of {buffers} buffers, {steiner} Steiner points, 1 sink");
+        nets.push((name, line(buffers, steiner).bytes()));
+    }
+    let buffer = Kind::Buffer { capacitance: 1, resistance: 1, intrinsic: 1 };
+    let sink = Kind::Sink { capacitance: 1, required: 1 };
+    nets.extend(one_more("64th buffer", line(63, 0), buffer.clone()));
+    nets.extend(one_more("Steiner point after the 63rd buffer", line(63, 0), Kind::Steiner));
+    nets.extend(one_more("256th node, a sink", line(0, 254), sink));
+    nets.extend(one_more("256th node, a Steiner point", line(0, 254), Kind::Steiner));
+    nets.extend(one_more("256th node and 64th buffer", line(63, 191), buffer));
+    nets
+}
+
+/// A line with one more node, whole, cut, and with each fault in its record. The driver has room for a second child.
+fn one_more(name: &str, base: Draft, kind: Kind) -> Vec<Named> {
+    let start = base.bytes().len();
+    let mut beyond = base;
+    beyond.nodes.push(Node { parent: 0, length: 1, costs: vec![1, 2], kind });
+    let bytes = beyond.bytes();
+    // A fault further on is not met.
+    let mut nets =
+        vec![(String::from(name), bytes.clone()), (format!("{name}, rubbish"), [&bytes[..], &[9, 9, 9]].concat())];
+    for length in start..bytes.len() {
+        nets.push((format!("{name}, cut to {length} bytes"), bytes[..length].to_vec()));
+    }
+    for edit in edits(&beyond).iter().filter(|edit| edit.at >= start) {
+        let mut net = bytes.clone();
+        edit.apply(&mut net);
+        nets.push((format!("{name}, {}", edit.what), net));
+    }
+    nets
+}
+
+/// Whole nets with a long tail: the first fault is met all the same, also where a length of 16 bits would end the net.
+pub fn long() -> Vec<Named> {
+    let mut nets = vec![];
+    for (name, net) in [("A", net_a(830).bytes()), ("a line of 255 nodes", line(63, 191).bytes())] {
+        for tail in [65_535, 65_536, 65_537, 100_000] {
+            nets.push((format!("{name} and {tail} zeros"), [&net[..], &vec![0; tail]].concat()));
+        }
+    }
+    nets
+}
+
+/// Where the layers field, the driver field and a node field are due: each tag, with the head cut or whole and no payload.
+pub fn heads() -> Vec<Named> {
+    let net = net_a(830).bytes();
+    let (layers, driver) = (11, 11 + 19);
+    let mut nets = vec![];
+    for (due, front, length) in
+        [("layers", 0, 8), ("driver", layers, 16), ("a node", driver, 24), ("no more", net.len(), 24)]
+    {
+        for tag in 0..=255 {
+            for head in [&[tag][..], &[tag, 0], &[tag, 0, length]] {
+                nets.push((format!("where {due} is due: {head:02x?}"), [&net[..front], head].concat()));
+            }
+        }
+    }
+    nets
+}
+
+/// Layers fields of every count from 0 to 18, with no node, and one sink that fits.
+pub fn layer_counts() -> Vec<Named> {
+    let mut nets = vec![];
+    for count in 0..=18 {
+        let mut draft = net_a(830);
+        draft.layers = vec![(2, 3); count];
+        draft.nodes[0].costs = vec![7; count];
+        nets.push((format!("{count} layers"), draft.bytes()));
+        draft.nodes[0].costs = vec![7; count + 1];
+        nets.push((format!("{count} layers, a cost too many"), draft.bytes()));
+        draft.nodes.clear();
+        nets.push((format!("{count} layers and no node"), draft.bytes()));
+    }
+    nets
+}
+
+/// Bytes that were never a net.
+pub fn rubbish(random: &mut Random) -> Vec<u8> {
+    let length = random.below(80);
+    let mut bytes: Vec<u8> = (0..length).map(|_| random.next() as u8).collect();
+    // Often the beginning of one.
+    if random.one_in(2) {
+        let whole = net_b().bytes();
+        let kept = random.below(whole.len());
+        bytes = [&whole[..kept], &bytes].concat();
+    }
+    bytes
+}
+
+/// A few random bytes of a net set to random values.
+pub fn scrambled(draft: &Draft, random: &mut Random) -> Vec<u8> {
+    let mut bytes = draft.bytes();
+    for _change in 0..random.between(1, 3) {
+        let at = random.below(bytes.len());
+        bytes[at] = if random.one_in(2) { random.next() as u8 } else { bytes[at] ^ (1 << random.below(8)) };
+    }
+    bytes
+}

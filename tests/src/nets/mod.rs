@@ -1,0 +1,17 @@
+//! Nets as bytes: random whole nets of several families, nets made for one purpose, and damaged ones. The same seed
+//! gives the same nets.
+
+mod damage;
+mod draft;
+mod grown;
+mod named;
+mod random;
+mod times;
+
+pub use damage::{bits_turned, damaged, heads, layer_counts, long, rubbish, scrambled, too_many};
+pub use draft::{Draft, Kind, Node, TIME};
+pub use grown::{at_limits, cheap, random_net, LARGE_FAMILIES, SMALL_FAMILIES};
+pub use named::{all_kinds, costing, crossed, dear_b, even_line, even_tree, last_layer_cheapest, line};
+pub use named::{net_a, net_b, no_delay, slowest_line, star};
+pub use random::Random;
+pub use times::leave_slack;

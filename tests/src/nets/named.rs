@@ -1,0 +1,175 @@
+//! The nets of 01, "Nets to try", and others made for one purpose each.
+
+use super::draft::{Draft, Kind, Node, COST, GATE, INTRINSIC, LENGTH, MOST_NODES, TIME, UNIT};
+use super::times::leave_slack;
+
+/// Net A with another required time.
+pub fn net_a(required: i64) -> Draft {
+    Draft {
+        layers: vec![(4, 1), (1, 1)],
+        resistance: 1,
+        intrinsic: 0,
+        arrival: 0,
+        nodes: vec![Node { parent: 0, length: 10, costs: vec![10, 20], kind: Kind::Sink { capacitance: 5, required } }],
+    }
+}
+
+/// Net B.
+pub fn net_b() -> Draft {
+    let buffer = Kind::Buffer { capacitance: 5, resistance: 1, intrinsic: 3 };
+    let sink = Kind::Sink { capacitance: 5, required: 1_063 };
+    Draft {
+        nodes: vec![
+            Node { parent: 0, length: 10, costs: vec![10, 20], kind: buffer },
+            Node { parent: 1, length: 10, costs: vec![12, 25], kind: sink },
+        ],
+        ..net_a(0)
+    }
+}
+
+/// A line: a number of buffers, then Steiner points, then one sink.
+pub fn line(buffers: usize, steiner: usize) -> Draft {
+    let mut draft = net_a(830);
+    draft.nodes.clear();
+    for number in 0..buffers + steiner {
+        let buffer = Kind::Buffer { capacitance: 1, resistance: 1, intrinsic: 1 };
+        let kind = if number < buffers { buffer } else { Kind::Steiner };
+        draft.nodes.push(Node { parent: number, length: 1, costs: vec![1, 2], kind });
+    }
+    let sink = Kind::Sink { capacitance: 1, required: TIME.1 };
+    draft.nodes.push(Node { parent: buffers + steiner, length: 1, costs: vec![1, 2], kind: sink });
+    draft
+}
+
+/// A line with every number at its upper end, less this. The best slack is 0; but 255 edges cannot be met, and have the
+/// least slack there is.
+pub fn slowest_line(edges: usize, buffers: usize, less: i64) -> Draft {
+    let (gate, intrinsic) = (GATE.1 - less, INTRINSIC.1 - less);
+    let required = if edges == MOST_NODES { TIME.0 } else { TIME.1 };
+    let mut nodes = vec![];
+    for number in 1..=edges {
+        let kind = if number == edges {
+            Kind::Sink { capacitance: gate, required }
+        } else if number <= buffers {
+            Kind::Buffer { capacitance: gate, resistance: gate, intrinsic }
+        } else {
+            Kind::Steiner
+        };
+        nodes.push(Node { parent: number - 1, length: LENGTH.1 - less, costs: vec![COST.1 - less; 2], kind });
+    }
+    let layers = vec![(UNIT.1 - less, UNIT.1 - less), (UNIT.1, UNIT.1)];
+    let mut draft = Draft { layers, resistance: gate, intrinsic, arrival: TIME.1, nodes };
+    leave_slack(&mut draft, 0);
+    draft
+}
+
+/// A node at the end of an edge of length 1.
+fn hung(parent: usize, costs: &[i64], kind: Kind) -> Node {
+    Node { parent, length: 1, costs: costs.to_vec(), kind }
+}
+
+/// One stage that drives others, each with a sink: a line of Steiner points with a buffer at each, two at the last.
+pub fn star(branches: usize) -> Draft {
+    let buffer = Kind::Buffer { capacitance: 2, resistance: 3, intrinsic: 4 };
+    let mut nodes = vec![];
+    for number in 1..branches {
+        nodes.push(hung(number - 1, &[1, 2, 3], Kind::Steiner));
+    }
+    for number in 1..=branches {
+        nodes.push(hung(number.min(branches - 1), &[2, 1, 3], buffer.clone()));
+    }
+    for number in branches..2 * branches {
+        let required = 40 * (number as i64 % 5);
+        nodes.push(hung(number, &[1, 2, 4], Kind::Sink { capacitance: 3, required }));
+    }
+    let mut draft = Draft { layers: vec![(3, 2), (2, 2), (1, 1)], resistance: 1, intrinsic: 5, arrival: 0, nodes };
+    leave_slack(&mut draft, 11 * branches as i128);
+    draft
+}
+
+/// Two branches whose buffers stand in the file in another order than in the tree.
+pub fn crossed() -> Draft {
+    let buffer = Kind::Buffer { capacitance: 1, resistance: 2, intrinsic: 3 };
+    let sink = Kind::Sink { capacitance: 2, required: 0 };
+    let nodes = vec![
+        hung(0, &[1, 1], Kind::Steiner),
+        hung(0, &[2, 3], buffer.clone()),
+        hung(1, &[3, 1], buffer),
+        hung(2, &[5, 2], sink.clone()),
+        hung(3, &[1, 4], sink),
+    ];
+    let mut draft = Draft { layers: vec![(4, 1), (1, 2)], resistance: 1, intrinsic: 2, arrival: 0, nodes };
+    leave_slack(&mut draft, 60);
+    draft
+}
+
+/// One stage with 128 sinks: the even tree of 255 nodes.
+pub fn even_tree() -> Draft {
+    let kind = |number: usize| match number {
+        1..=127 => Kind::Steiner,
+        _ => Kind::Sink { capacitance: number as i64 % 7, required: 5_000 - 3 * number as i64 },
+    };
+    let nodes = (1..=MOST_NODES).map(|number| hung(number / 2, &[1, 2], kind(number))).collect();
+    Draft { layers: vec![(2, 1), (1, 1)], resistance: 1, intrinsic: 0, arrival: 0, nodes }
+}
+
+/// A line of stages that cost the same on both layers.
+pub fn even_line(stages: usize, cost: i64) -> Draft {
+    let mut draft = line(stages - 1, 0);
+    for node in &mut draft.nodes {
+        node.costs = vec![cost, cost];
+    }
+    draft
+}
+
+/// One stage of this cost on both layers, and no plan late.
+pub fn costing(total: i64) -> Draft {
+    let edges = (total as usize).div_ceil(COST.1 as usize);
+    let mut draft = line(0, edges - 1);
+    for (number, node) in draft.nodes.iter_mut().enumerate() {
+        let cost = if number == 0 { total - COST.1 * (edges as i64 - 1) } else { COST.1 };
+        node.costs = vec![cost, cost];
+    }
+    draft
+}
+
+/// A sink that is reached at once.
+pub fn no_delay(arrival: i64, required: i64) -> Draft {
+    let sink = Kind::Sink { capacitance: 0, required };
+    let nodes = vec![Node { parent: 0, length: 0, costs: vec![1, 1], kind: sink }];
+    Draft { layers: vec![(1, 1), (1, 1)], resistance: 0, intrinsic: 0, arrival, nodes }
+}
+
+/// 64 stages, 255 nodes and 16 layers, of which the last is the cheapest.
+pub fn last_layer_cheapest() -> Draft {
+    let mut draft = line(63, 191);
+    draft.layers = vec![(1, 1); 16];
+    for node in &mut draft.nodes {
+        node.costs = (0..16).map(|layer| 16 - layer).collect();
+    }
+    draft
+}
+
+/// Net B with other costs.
+pub fn dear_b(times: i64, required: i64) -> Draft {
+    let mut draft = net_b();
+    for node in &mut draft.nodes {
+        node.costs.iter_mut().for_each(|cost| *cost *= times);
+    }
+    draft.nodes[1].kind = Kind::Sink { capacitance: 5, required };
+    draft
+}
+
+/// A small net with nodes of all kinds: stage 0 ends at a buffer and a sink, stage 1 at two sinks.
+pub fn all_kinds() -> Draft {
+    let sink = |required: i64| Kind::Sink { capacitance: 2, required };
+    let buffer = Kind::Buffer { capacitance: 1, resistance: 2, intrinsic: 3 };
+    let nodes = vec![
+        hung(0, &[3, 5], Kind::Steiner),
+        hung(1, &[2, 4], buffer),
+        hung(1, &[1, 1], sink(90)),
+        hung(2, &[6, 7], sink(110)),
+        hung(2, &[1, 2], sink(112)),
+    ];
+    Draft { layers: vec![(4, 1), (1, 1)], resistance: 1, intrinsic: 2, arrival: -5, nodes }
+}

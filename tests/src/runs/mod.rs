@@ -1,0 +1,26 @@
+//! The sets of calls that are compared.
+
+mod limits;
+mod order;
+mod planning;
+mod reading;
+mod universe;
+
+use crate::compare::{Comparison, Outcome};
+use crate::nets::Random;
+use crate::rows;
+
+/// Everything: the rows of 01, the same nets every time, then random ones, `count` of them small.
+pub fn all(c: &mut Comparison, seed: u64, count: usize) -> Outcome {
+    rows::run(c)?;
+    order::run(c)?;
+    limits::numbers(c)?;
+    reading::fixed(c)?;
+    universe::run(c)?;
+    limits::nets(c)?;
+    let mut random = Random::new(seed);
+    reading::damaged(c, &mut random, 4 + count / 40)?;
+    planning::small_nets(c, &mut random, count)?;
+    limits::random(c, &mut random, count / 100)?;
+    planning::large_nets(c, &mut random, count / 4)
+}

@@ -1,0 +1,197 @@
+//! The three calls: refusals, results, buffers.
+
+use super::mistakes::{Call, Mistake, Other};
+use super::rare::{Facts, Terms};
+use super::reading::Net;
+use super::search::{Asked, Found};
+use super::timing::Timed;
+use super::{low_bits, Wrong};
+use crate::plain::{Checked, Judged, Planned};
+
+/// What stands beside a refusal by mistake.
+const LEFT: u64 = 7;
+
+impl Wrong {
+    pub fn check(&self, bytes: &[u8]) -> Checked {
+        match self.read(bytes) {
+            Err(refusal) => {
+                let left = self.beside(Call::Check, refusal);
+                Checked { refusal, nodes: left, stages: left, layers: left }
+            }
+            Ok(net) => {
+                let bits = if self.makes(Other::Counts8) { 8 } else { 32 };
+                let nodes = net.nodes.len() - self.makes(Other::DriverNotCounted) as usize;
+                let stages = net.buffers() + !self.makes(Other::BuffersForStages) as usize;
+                let [nodes, stages, layers] =
+                    [nodes, stages, net.layers.len()].map(|count| low_bits(count, bits) as u64);
+                Checked { refusal: 0, nodes, stages, layers }
+            }
+        }
+    }
+
+    pub fn judge(&self, bytes: &[u8], plan: &[u8]) -> Judged {
+        let read = self.read(bytes);
+        if let Some(refusal) = self.first(Call::Judge, &self.judging_refusals(&read, plan)) {
+            let left = self.beside(Call::Judge, refusal);
+            return Judged { refusal, cost: left, slack: left as i64 };
+        }
+        let Ok(net) = read else { return Judged::default() };
+        let timed = self.timed(&net, Call::Judge);
+        let layer = |stage: usize| (plan.get(stage).map_or(0, |&layer| layer as usize)).min(timed.layers - 1);
+        let plan: Vec<usize> = (0..timed.stages.len()).map(layer).collect();
+        let (cost, slack) = (timed.cost(&plan), timed.slack(&plan));
+        if slack < 0 && self.makes(Other::LateIsRefused) {
+            return Judged { refusal: 11, ..Default::default() };
+        }
+        let slack = self.slack_judged(&Facts { net: &net, timed: &timed, plan: &plan, cost, slack });
+        Judged { refusal: 0, cost: cost as u64, slack }
+    }
+
+    /// The refusals of judging whose conditions hold, in their order.
+    fn judging_refusals(&self, read: &Result<Net, u8>, plan: &[u8]) -> Vec<u8> {
+        let (stages, layers) = read.as_ref().map_or((1, 16), |net| (net.buffers() + 1, net.layers.len()));
+        let long = plan.len() > stages && self.makes(Other::LongPlanAccepted);
+        let length = if self.makes(Other::PlanLength8) { low_bits(plan.len(), 8) } else { plan.len() };
+        let limit = layers + self.makes(Other::LayerCountAccepted) as usize;
+        let negative = |layer: u8| layer >= 128 && self.makes(Other::LayerSigned);
+        let bad = |&layer: &u8| layer as usize >= limit && !negative(layer);
+        let bad_layer =
+            if self.makes(Other::LastLayerOnly) { plan.last().is_some_and(bad) } else { plan.iter().any(bad) };
+        let mut holding: Vec<u8> = read.as_ref().err().copied().into_iter().collect();
+        holding.extend((length != stages && !long).then_some(7));
+        holding.extend(bad_layer.then_some(8));
+        holding
+    }
+
+    /// The refusal that is given.
+    fn first(&self, call: Call, holding: &[u8]) -> Option<u8> {
+        let first = *holding.first()?;
+        if let Mistake::Before(made, early, late) = self.mistake {
+            if made == call && holding.contains(&early) && (late == first || (late == 1 && first < 7)) {
+                return Some(early);
+            }
+        }
+        Some(first)
+    }
+
+    /// What stands beside a refusal.
+    fn beside(&self, call: Call, refusal: u8) -> u64 {
+        if self.mistake == Mistake::ResultsBeside(call, refusal) {
+            LEFT
+        } else {
+            0
+        }
+    }
+
+    pub fn plan(&self, bytes: &[u8], p: u64, q: u64, table: &mut [i64], buffer: &mut [u8]) -> Planned {
+        let narrow = |number: u64| match self.other() {
+            Some(Other::Share32) => number & 0xFFFF_FFFF,
+            Some(Other::Share16) => number & 0xFFFF,
+            _ => number,
+        };
+        let asked = Asked { p: narrow(p), q: narrow(q), table, buffer };
+        let read = self.read(bytes);
+        let (holding, found) = self.planning_refusals(&read, &asked);
+        if let Some(refusal) = self.first(Call::Plan, &holding) {
+            return self.refuse(refusal, table, buffer);
+        }
+        let (Ok(net), Some(Found::Plan { plan, k, least })) = (read, found) else { return Planned::default() };
+        let terms = Terms { p, q, table_len: table.len(), buffer_len: buffer.len(), stages: plan.len(), least, k };
+        self.leave(&plan, &terms, table, buffer);
+        self.answer(&net, &plan, &terms)
+    }
+
+    /// The refusals of planning whose conditions hold, in their order, and what the search finds if it is run. Of a
+    /// net that cannot be read it is taken that it has one stage.
+    fn planning_refusals(&self, read: &Result<Net, u8>, asked: &Asked) -> (Vec<u8>, Option<Found>) {
+        let stages = read.as_ref().map_or(1, |net| net.buffers() + 1);
+        let bad_share = asked.p > 1_000 || !(1..=1_000).contains(&asked.q);
+        let zero_refused = asked.p == 0 && self.makes(Other::ZeroShareRefused);
+        let buffer_len = asked.buffer.len();
+        let buffer_len = if self.makes(Other::PlanLength8) { low_bits(buffer_len, 8) } else { buffer_len };
+        let mut holding: Vec<u8> = read.as_ref().err().copied().into_iter().collect();
+        holding.extend((bad_share || zero_refused).then_some(9));
+        holding.extend((buffer_len < stages).then_some(10));
+        let timed = read.as_ref().ok().map(|net| self.timed(net, Call::Plan));
+        holding.extend(timed.as_ref().is_some_and(|timed| self.late(timed)).then_some(11));
+        let mut found = None;
+        if let Some(timed) = timed.filter(|_| holding.is_empty()) {
+            found = Some(if self.makes(Other::AlwaysTwelve) { Found::Short } else { self.search(&timed, asked) });
+        }
+        let short = matches!(found, Some(Found::Short)) || asked.table.len() < stages + 2;
+        holding.extend(short.then_some(12));
+        (holding, found)
+    }
+
+    /// Does no plan meet timing?
+    fn late(&self, timed: &Timed) -> bool {
+        let (best, target) = (self.best(timed), self.target(timed));
+        let late = if self.makes(Other::StopsWrongWay) { best > target } else { best < target };
+        late || self.makes(Other::AlwaysEleven)
+    }
+
+    fn refuse(&self, refusal: u8, table: &mut [i64], buffer: &mut [u8]) -> Planned {
+        let cleared = refusal == 12 && !self.makes(Other::TableKeptAfterTwelve);
+        if cleared || self.mistake == Mistake::TableChanged(refusal) {
+            let kept = if self.makes(Other::TailKeptAfterTwelve) { table.len().min(1) } else { 0 };
+            let cleared = table.len() - kept;
+            table[..cleared].fill(0);
+        }
+        if self.mistake == Mistake::BufferChanged(refusal) {
+            buffer.fill(0);
+        }
+        let left = self.beside(Call::Plan, refusal);
+        let floor = if self.makes(Other::FloorBesideRefusal) { LEFT } else { left };
+        Planned { refusal, cost: left, slack: left as i64, k: left, floor }
+    }
+
+    /// What acceptance leaves in table and buffer.
+    fn leave(&self, plan: &[usize], terms: &Terms, table: &mut [i64], buffer: &mut [u8]) {
+        let width = terms.stages + 2;
+        let cleared = match self.other() {
+            Some(Other::TableNotCleared) => 0,
+            Some(Other::TailNotCleared) => table.len() / width * width,
+            Some(Other::UnusedNotCleared) => table.len().min((terms.least + 1) * width),
+            _ => table.len(),
+        };
+        table[..cleared].fill(0);
+        if self.makes(Other::LaterBytesCleared) {
+            buffer.fill(0);
+        }
+        if !self.makes(Other::BufferUntouched) {
+            for (byte, layer) in buffer.iter_mut().zip(plan) {
+                *byte = *layer as u8;
+            }
+        }
+    }
+
+    fn answer(&self, net: &Net, plan: &[usize], terms: &Terms) -> Planned {
+        let timed = self.timed(net, Call::Judge);
+        let (cost, slack) = (timed.cost(plan), timed.slack(plan));
+        let slack = self.slack_planned(&Facts { net, timed: &timed, plan, cost, slack }, terms);
+        let (cost, rounded, k) = (cost as u64, (terms.least as u64) << terms.k, terms.k as u64);
+        let floor = match self.other() {
+            Some(Other::FloorZero) => 0,
+            Some(Other::FloorIsCost) => cost,
+            Some(Other::FloorTooSmall) => (terms.q * cost).div_ceil(terms.q + terms.p) - 1,
+            Some(Other::FloorTooLarge) if k > 0 => self.cheapest(&timed, cost).map_or(rounded, |cost| cost + 1),
+            _ => rounded,
+        };
+        Planned {
+            refusal: 0,
+            cost: if self.makes(Other::CostMadeUp) { rounded } else { cost },
+            slack,
+            k: if self.makes(Other::KMadeUp) { 0 } else { k },
+            floor,
+        }
+    }
+
+    /// The cost of the cheapest plan, where it is known to be small.
+    fn cheapest(&self, timed: &Timed, known: u64) -> Option<u64> {
+        let table = vec![0; (known.min(1_000) as usize + 1) * (timed.stages.len() + 2)];
+        match self.search(timed, &Asked { p: 0, q: 1, table: &table, buffer: &[] }) {
+            Found::Plan { least, .. } => Some(least as u64),
+            Found::Short => None,
+        }
+    }
+}

@@ -1,0 +1,272 @@
+//! The mistakes, each with the words it is reported by.
+
+use super::rare::{IN_PLANS, IN_SHARES};
+use super::reading::NUMBERS;
+
+/// Declares an enum whose members have words.
+macro_rules! with_words {
+    ($(#[$about:meta])* $name:ident { $($member:ident $words:literal,)* }) => {
+        $(#[$about])*
+        #[derive(Clone, Copy, PartialEq, Debug)]
+        pub enum $name { $($member,)* }
+
+        impl $name {
+            pub const ALL: &'static [$name] = &[$($name::$member,)*];
+
+            pub fn words(self) -> &'static str {
+                match self { $($name::$member => $words,)* }
+            }
+        }
+    };
+}
+
+with_words! { Call {
+    Check "check",
+    Judge "judge",
+    Plan "plan",
+} }
+
+with_words! {
+    /// About one number of a record.
+    Slip {
+        BelowAccepted "one below its range accepted",
+        LowestRefused "its least value refused",
+        HighestRefused "its largest value refused",
+        AboveAccepted "one above its range accepted",
+        FirstByteIgnored "read without its first byte",
+    }
+}
+
+with_words! {
+    /// About timing and costs: made where a plan is judged, or where one is searched for.
+    Timing {
+        OwnWireOnly "load counting only the path's own wire",
+        MaxOverTerminals "max for min over terminals",
+        IntrinsicDoubled "intrinsic delay doubled",
+        IntrinsicForgotten "intrinsic delay of buffers forgotten",
+        GateLoadOnce "gate delay without the factor 2",
+        EdgeLoadOnce "edge delay without the factor 2",
+        OwnInputInLoad "a buffer's own input capacitance in its root load",
+        SecondChildUnseen "load without a node's second child",
+        EdgeWithLowerStage "the edge above a buffer paid on the lower stage's layer",
+        ShortEdgeFree "edges of length 0 cost nothing",
+        FirstSinkOnly "of a stage's sinks only the first counts",
+        LastSinkOnly "of a stage's sinks only the last counts",
+        SinkBesideBuffer "a sink beside a buffer in its stage does not count",
+        BufferBesideSink "a buffer beside a sink in its stage does not count",
+        ThirdBuffer "of the buffers that end a stage only the first two count",
+        LastTerminal "the last terminal of a stage does not count",
+        TreeOrder "stages numbered along the tree, not in file order",
+        ArrivalForgotten "arrival time not subtracted",
+        ArrivalUnsigned "arrival time without its sign",
+        Floats32 "delays in floating point of 32 bits",
+        Floats64 "delays in floating point of 64 bits",
+        Delays32 "delays by their low 32 bits",
+        Times48 "times by their low 48 bits",
+        Cost24 "costs of stages by their low 24 bits",
+    }
+}
+
+with_words! {
+    /// All others.
+    Other {
+        // Reading.
+        ThreeBeforeFour "3 before 4",
+        FiveBeforeFour "5 before 4",
+        FiveBeforeThree "5 before 3",
+        FourBeforePayload "4 before the payload is known to be there",
+        PayloadBeforeTag "payload missing before tag and length",
+        TrailingByteIgnored "one or two bytes after the last field ignored",
+        TrailingByteIsTwo "a trailing byte with a wrong tag gives 2",
+        FirstHeadIsTwo "less than a head with a wrong tag gives 2 where layers or driver are due",
+        TagLowBits "tags by their low 3 bits",
+        LongNetCut "the length of a net by its low 16 bits",
+        PayloadLength8 "payload lengths by their low byte",
+        ParentLowByte "parents by their low byte",
+        ThirdChildAccepted "a third child accepted",
+        ThirdChildAtEnd "a third child refused only at the end",
+        OwnParentAccepted "a node that is its own parent accepted",
+        SinkParentAccepted "a sink accepted as parent",
+        HighParentIsThree "a parent too high gives 3",
+        ChildlessAccepted "childless nodes accepted",
+        ChildlessBufferAccepted "a childless buffer accepted",
+        ChildlessDriverIsOne "layers and driver alone give 1",
+        ChildlessLast "only the last node's childlessness looked at",
+        Node256Accepted "a 256th node accepted",
+        Node255Refused "a 255th node refused",
+        Buffer64Accepted "a 64th buffer accepted",
+        Buffer63Refused "a 63rd buffer refused",
+        LayersLengthIsThree "a wrong layers length gives 3",
+        Layers16Refused "16 layers refused",
+        Layers17Accepted "17 layers accepted",
+        LayersRounded "layers lengths that are no multiple of 4 accepted",
+        SinkLength "a sink of a Steiner point's length accepted",
+        LastLayerUnchecked "the last layer's units unchecked",
+        LastCostUnchecked "the last cost of a record unchecked",
+        Counts8 "counts by their low byte",
+        DriverNotCounted "the driver not counted among the nodes",
+        BuffersForStages "buffers counted for stages",
+        // Judging.
+        LateIsRefused "negative slack refused by judging",
+        LongPlanAccepted "a plan longer than s accepted",
+        PlanLength8 "plan and buffer lengths by their low byte",
+        LayerCountAccepted "a layer number equal to the layer count accepted",
+        LayerSigned "layer numbers from 128 on taken for negative",
+        LastLayerOnly "only the last layer number looked at",
+        // Planning: refusals.
+        ZeroShareRefused "p = 0 refused",
+        Share32 "p and q by their low 32 bits",
+        Share16 "p and q by their low 16 bits",
+        ZeroSlackMisses "a slack of 0 misses",
+        MinusOneMeets "a slack of -1 meets",
+        AlwaysEleven "refusal 11 for all nets",
+        AlwaysTwelve "table short before looking",
+        StopsWrongWay "stopping when the required time is below arrival",
+        TwelveEarly "12 one column early",
+        TwelveLate "12 one column late",
+        ColumnsByOneMore "columns by s + 1",
+        ColumnsByThreeMore "columns by s + 3",
+        ColumnsRoundedUp "columns rounded up",
+        Table16 "the length of a table by its low 16 bits",
+        // Planning: search.
+        BudgetsFromOne "budgets starting at 1",
+        SmallerTime "larger cost with smaller required time",
+        BranchesShare "branches share a budget",
+        BranchesInStep "branches spend alike",
+        StaleTable "rows begun with what the table holds",
+        BoundShort "V(k) looked for below 2 V(k + 1) + s",
+        LastPlan "last plan instead of first",
+        LastLayerOfRoot "stage 0 takes its last layer that serves, the others their first",
+        LastLayerElsewhere "stage 0 takes its first layer that serves, the others their last",
+        LastLayerAtEnd "the last stage takes its last layer that serves",
+        LastLayerInSecondBranch "a second branch takes its last layer that serves",
+        CheaperTie "of layers that serve the cheapest",
+        FarTie "of layers that serve and are no neighbours the higher",
+        StaleBuffer "a layer that serves kept where the buffer holds one",
+        KTooSmall "k one too small",
+        KTooLarge "k one too large",
+        KAtMost26 "k at most 26",
+        StrictGrain "< for <= in the grain's test",
+        GrainWithoutStages "the grain's test without s",
+        GrainWithoutMinus "g for g - 1 in the grain's test",
+        GrainLeft32 "q x s x (g - 1) by its low 32 bits",
+        GrainRight32 "p x g x V(k) by its low 32 bits",
+        GrainValue16 "V(k) in the grain's test by its low 16 bits",
+        ShareInThousandths "the share rounded to thousandths",
+        RoundedByEdge "rounded by edge",
+        RoundedUp "rounded up",
+        FastestPlan "the fastest plan for every share",
+        StageZeroOnly "stage 0 planned well, layer 0 elsewhere",
+        FixedPlan "one fixed plan",
+        Remembered "the last answer given again for the same net, share and lengths",
+        // Planning: results and buffers.
+        CostMadeUp "g x V(k) given as cost",
+        KMadeUp "k made up",
+        FloorZero "a floor of 0",
+        FloorBesideRefusal "a floor beside a refusal",
+        FloorIsCost "the cost as floor",
+        FloorTooSmall "a floor one below what the share allows",
+        FloorTooLarge "a floor one above the cheapest plan's cost",
+        TableNotCleared "table not cleared after acceptance",
+        TailNotCleared "entries beyond the last whole column not cleared",
+        UnusedNotCleared "columns that were not needed not cleared",
+        TableKeptAfterTwelve "table not cleared after 12",
+        TailKeptAfterTwelve "the last entry of the table not cleared after 12",
+        BufferUntouched "success with an untouched buffer",
+        LaterBytesCleared "later bytes of the buffer cleared",
+        // What only a host can see.
+        EntryBeforeTable "an entry before the table written",
+        EntryBeyondTable "an entry beyond the table written",
+        ByteBeforeBuffer "a byte before the plan buffer written",
+        ByteBeyondBuffer "a byte beyond the plan buffer written",
+        JudgedPlanChanged "the plan that is judged changed",
+        WordBesideResult "a word beyond a result written",
+        HalfResults "only the low halves of results written",
+    }
+}
+
+/// One mistake, or none.
+#[derive(Clone, Copy, PartialEq, Debug)]
+pub enum Mistake {
+    None,
+    Other(Other),
+    /// About the number at a place of `NUMBERS`.
+    Number(usize, Slip),
+    /// Where plans are judged, or where one is searched for.
+    Timing(Call, Timing),
+    /// One refusal given before another; 1 stands for 1 to 6.
+    Before(Call, u8, u8),
+    /// After a refusal.
+    TableChanged(u8),
+    BufferChanged(u8),
+    ResultsBeside(Call, u8),
+    /// A result, by its place among the call's, is left unwritten: beside a refusal, or else.
+    Unwritten(Call, usize, bool),
+    NetChanged(Call),
+    /// The slack is one too large, but only there.
+    RareNet(Call, usize),
+    RareShare(usize),
+    RareGrain(u32),
+}
+
+impl Mistake {
+    /// The mistake in words.
+    pub fn words(self) -> String {
+        match self {
+            Mistake::None => String::from("no mistake"),
+            Mistake::Other(other) => String::from(other.words()),
+            Mistake::Number(place, slip) => format!("{}: {}", NUMBERS[place].0, slip.words()),
+            Mistake::Timing(Call::Judge, timing) => format!("{}, in judging", timing.words()),
+            Mistake::Timing(_, timing) => format!("{}, in the search", timing.words()),
+            Mistake::Before(call, early, 1) => format!("{}: {early} before 1 to 6", call.words()),
+            Mistake::Before(call, early, late) => format!("{}: {early} before {late}", call.words()),
+            Mistake::TableChanged(refusal) => format!("table cleared after {refusal}"),
+            Mistake::BufferChanged(refusal) => format!("plan buffer touched after {refusal}"),
+            Mistake::ResultsBeside(call, refusal) => format!("{}: results beside refusal {refusal}", call.words()),
+            Mistake::Unwritten(call, place, refused) => {
+                let when = if refused { "refusal" } else { "acceptance" };
+                format!("{}: result {place} not written on {when}", call.words())
+            }
+            Mistake::NetChanged(call) => format!("{}: net changed", call.words()),
+            Mistake::RareNet(call, place) => format!("{}: slack wrong only {}", call.words(), IN_PLANS[place].0),
+            Mistake::RareShare(place) => format!("plan: slack wrong only {}", IN_SHARES[place].0),
+            Mistake::RareGrain(k) => format!("plan: slack wrong only at k = {k}"),
+        }
+    }
+
+    /// All of them.
+    pub fn all() -> Vec<Mistake> {
+        let mut all = vec![];
+        all.extend(Other::ALL.iter().map(|&other| Mistake::Other(other)));
+        for (place, &(_, width, low, _)) in NUMBERS.iter().enumerate() {
+            // Nothing is below 0 but a time.
+            let made = Slip::ALL.iter().filter(|&&slip| slip != Slip::BelowAccepted || low > 0 || width == 8);
+            all.extend(made.map(|&slip| Mistake::Number(place, slip)));
+        }
+        all.extend(Timing::ALL.iter().map(|&timing| Mistake::Timing(Call::Judge, timing)));
+        // No plan that meets timing has a delay that 64 bits of floating point cannot hold.
+        let in_search = Timing::ALL.iter().filter(|&&timing| timing != Timing::Floats64);
+        all.extend(in_search.map(|&timing| Mistake::Timing(Call::Plan, timing)));
+        let orders = [(9, 1), (10, 1), (12, 1), (10, 9), (11, 9), (12, 9), (11, 10), (12, 10), (12, 11)];
+        all.extend(orders.map(|(early, late)| Mistake::Before(Call::Plan, early, late)));
+        all.extend([(7, 1), (8, 1), (8, 7)].map(|(early, late)| Mistake::Before(Call::Judge, early, late)));
+        let planned_refusals = || (1..=12).filter(|refusal| ![7, 8].contains(refusal));
+        all.extend(planned_refusals().filter(|&refusal| refusal != 12).map(Mistake::TableChanged));
+        all.extend(planned_refusals().map(Mistake::BufferChanged));
+        all.extend((1..=6).map(|refusal| Mistake::ResultsBeside(Call::Check, refusal)));
+        all.extend((1..=8).map(|refusal| Mistake::ResultsBeside(Call::Judge, refusal)));
+        all.extend(planned_refusals().map(|refusal| Mistake::ResultsBeside(Call::Plan, refusal)));
+        for (call, results) in [(Call::Check, 3), (Call::Judge, 2), (Call::Plan, 4)] {
+            all.push(Mistake::NetChanged(call));
+            for place in 0..results {
+                all.extend([true, false].map(|refused| Mistake::Unwritten(call, place, refused)));
+            }
+        }
+        for place in 0..IN_PLANS.len() {
+            all.extend([Mistake::RareNet(Call::Judge, place), Mistake::RareNet(Call::Plan, place)]);
+        }
+        all.extend((0..IN_SHARES.len()).map(Mistake::RareShare));
+        all.extend((0..=27).map(Mistake::RareGrain));
+        all
+    }
+}

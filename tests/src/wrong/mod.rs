@@ -1,0 +1,39 @@
+//! Wrong planners, in the library's place behind the C interface: one planner by a table of budgets, and a list of
+//! mistakes, of which it makes one at a time. The comparison must expose each of them, and must find no fault with the
+//! planner that makes none.
+
+mod calls;
+mod door;
+mod mistakes;
+mod rare;
+mod reading;
+mod search;
+mod timing;
+
+pub use door::interface;
+pub use mistakes::Mistake;
+use mistakes::Other;
+
+/// A planner that makes one mistake.
+#[derive(Clone, Copy)]
+struct Wrong {
+    mistake: Mistake,
+}
+
+impl Wrong {
+    fn makes(&self, other: Other) -> bool {
+        self.other() == Some(other)
+    }
+
+    fn other(&self) -> Option<Other> {
+        match self.mistake {
+            Mistake::Other(other) => Some(other),
+            _ => None,
+        }
+    }
+}
+
+/// A number by its low bits alone.
+fn low_bits(number: usize, bits: u32) -> usize {
+    number & ((1 << bits) - 1)
+}

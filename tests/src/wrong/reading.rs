@@ -1,0 +1,279 @@
+//! Reading net bytes.
+
+use super::mistakes::{Mistake, Other, Slip};
+use super::{low_bits, Wrong};
+
+pub const LAST_TIME: i64 = 1_000_000_000_000_000;
+
+/// The numbers of the records: name, width in bytes, range.
+pub const NUMBERS: &[(&str, usize, i64, i64)] = &[
+    ("unit resistance", 2, 1, 1_000),
+    ("unit capacitance", 2, 1, 1_000),
+    ("driver's gate resistance", 4, 0, 100_000),
+    ("driver's intrinsic delay", 4, 0, 1_000_000_000),
+    ("arrival time", 8, -LAST_TIME, LAST_TIME),
+    ("length", 2, 0, 1_000),
+    ("cost", 4, 1, 1_000_000),
+    ("buffer's input capacitance", 4, 0, 100_000),
+    ("buffer's gate resistance", 4, 0, 100_000),
+    ("buffer's intrinsic delay", 4, 0, 1_000_000_000),
+    ("sink's input capacitance", 4, 0, 100_000),
+    ("required time", 8, -LAST_TIME, LAST_TIME),
+];
+
+pub const DRIVER: u8 = 2;
+pub const BUFFER: u8 = 4;
+pub const SINK: u8 = 5;
+
+#[derive(Default, Clone)]
+pub struct Node {
+    pub tag: u8,
+    pub parent: usize,
+    pub length: i64,
+    pub costs: Vec<i64>,
+    pub capacitance: i64,
+    pub resistance: i64,
+    pub intrinsic: i64,
+    /// The driver's arrival time, a sink's required time.
+    pub time: i64,
+    pub children: Vec<usize>,
+}
+
+impl Node {
+    pub fn is_root(&self) -> bool {
+        matches!(self.tag, DRIVER | BUFFER)
+    }
+
+    pub fn is_terminal(&self) -> bool {
+        matches!(self.tag, BUFFER | SINK)
+    }
+}
+
+#[derive(Default)]
+pub struct Net {
+    pub layers: Vec<(i64, i64)>,
+    pub nodes: Vec<Node>,
+    /// A third child that was let through.
+    third_child: bool,
+}
+
+impl Net {
+    pub fn buffers(&self) -> usize {
+        self.nodes.iter().filter(|node| node.tag == BUFFER).count()
+    }
+}
+
+/// A payload read from the front; `bad` notes a number outside its range.
+struct Cursor<'a> {
+    left: &'a [u8],
+    bad: bool,
+    mistake: Mistake,
+}
+
+impl Cursor<'_> {
+    fn unsigned(&mut self, width: usize) -> i64 {
+        let (here, rest) = self.left.split_at(width);
+        self.left = rest;
+        here.iter().fold(0i64, |number, &byte| number << 8 | byte as i64)
+    }
+
+    /// The number at a place of `NUMBERS`.
+    fn number(&mut self, place: usize) -> i64 {
+        let (_, width, mut low, mut high) = NUMBERS[place];
+        let mut value = self.unsigned(width);
+        if let Mistake::Number(wrong, slip) = self.mistake {
+            match slip {
+                _ if wrong != place => {}
+                Slip::BelowAccepted => low -= 1,
+                Slip::LowestRefused => low += 1,
+                Slip::HighestRefused => high -= 1,
+                Slip::AboveAccepted => high += 1,
+                Slip::FirstByteIgnored => value &= (1 << (8 * width - 8)) - 1,
+            }
+        }
+        self.bad |= value < low || value > high;
+        value
+    }
+}
+
+impl Wrong {
+    pub fn read(&self, bytes: &[u8]) -> Result<Net, u8> {
+        let length = if self.makes(Other::LongNetCut) { low_bits(bytes.len(), 16) } else { bytes.len() };
+        let mut net = Net::default();
+        let mut rest = &bytes[..length];
+        for field in 0.. {
+            let enough = if self.makes(Other::TrailingByteIgnored) { 3 } else { 1 };
+            if field >= 2 && rest.len() < enough {
+                break;
+            }
+            let (tag, mut cursor) = self.field(&net, field, &mut rest)?;
+            match field {
+                0 => self.read_layers(&mut net, &mut cursor),
+                1 => net.nodes.push(read_driver(&mut cursor)),
+                _ => self.read_node(&mut net, tag, &mut cursor)?,
+            }
+            if cursor.bad {
+                return Err(3);
+            }
+        }
+        self.whole(&net)?;
+        Ok(net)
+    }
+
+    /// Head, tag and length, payload.
+    fn field<'a>(&self, net: &Net, field: usize, rest: &mut &'a [u8]) -> Result<(u8, Cursor<'a>), u8> {
+        if rest.len() < 3 {
+            let allowed = if field < 2 { field as u8 + 1..=field as u8 + 1 } else { 3..=5 };
+            let wrong_tag = rest.first().is_some_and(|tag| !allowed.contains(tag));
+            let is_two = self.makes(if field < 2 { Other::FirstHeadIsTwo } else { Other::TrailingByteIsTwo });
+            return Err(if wrong_tag && is_two { 2 } else { 1 });
+        }
+        let tag = if self.makes(Other::TagLowBits) { rest[0] & 7 } else { rest[0] };
+        let high = if self.makes(Other::PayloadLength8) { 0 } else { rest[1] as usize };
+        let length = high * 256 + rest[2] as usize;
+        let missing = rest.len() - 3 < length;
+        if missing && self.makes(Other::PayloadBeforeTag) {
+            return Err(1);
+        }
+        self.head(net, field, tag, length)?;
+        if self.makes(Other::FourBeforePayload) && field >= 2 {
+            self.room(net, tag)?;
+        }
+        if missing {
+            return Err(1);
+        }
+        let cursor = Cursor { left: &rest[3..3 + length], bad: false, mistake: self.mistake };
+        *rest = &rest[3 + length..];
+        Ok((tag, cursor))
+    }
+
+    fn head(&self, net: &Net, field: usize, tag: u8, length: usize) -> Result<(), u8> {
+        let layers = net.layers.len();
+        let fits = match (field, tag) {
+            (0, 1) => self.layers_fit(length),
+            (1, 2) => length == 16,
+            (2.., 3) => length == 4 + 4 * layers,
+            (2.., 5) if self.makes(Other::SinkLength) && length == 4 + 4 * layers => true,
+            (2.., 4 | 5) => length == 16 + 4 * layers,
+            _ => false,
+        };
+        if fits {
+            Ok(())
+        } else if (field, tag) == (0, 1) && self.makes(Other::LayersLengthIsThree) {
+            Err(3)
+        } else {
+            Err(2)
+        }
+    }
+
+    fn layers_fit(&self, length: usize) -> bool {
+        let most =
+            64 + 4 * self.makes(Other::Layers17Accepted) as usize - 4 * self.makes(Other::Layers16Refused) as usize;
+        (4..=most).contains(&length) && (length % 4 == 0 || self.makes(Other::LayersRounded))
+    }
+
+    fn read_layers(&self, net: &mut Net, cursor: &mut Cursor) {
+        while cursor.left.len() >= 4 {
+            let bad_before = cursor.bad;
+            net.layers.push((cursor.number(0), cursor.number(1)));
+            if cursor.left.is_empty() && self.makes(Other::LastLayerUnchecked) {
+                cursor.bad = bad_before;
+            }
+        }
+    }
+
+    /// A node record: 4, 3, 5.
+    fn read_node(&self, net: &mut Net, tag: u8, cursor: &mut Cursor) -> Result<(), u8> {
+        let node = self.record(net, tag, cursor);
+        let parent_fault = self.parent_fault(net, node.parent);
+        if cursor.bad && self.makes(Other::ThreeBeforeFour) {
+            return Err(3);
+        }
+        if parent_fault.is_some() && self.makes(Other::FiveBeforeFour) {
+            return Err(5);
+        }
+        self.room(net, tag)?;
+        if cursor.bad && !(parent_fault.is_some() && self.makes(Other::FiveBeforeThree)) {
+            return Err(3);
+        }
+        if let Some(fault) = parent_fault {
+            return Err(fault);
+        }
+        let (number, parent) = (net.nodes.len(), node.parent);
+        net.nodes.push(node);
+        net.nodes[parent].children.push(number);
+        net.third_child |= net.nodes[parent].children.len() > 2;
+        Ok(())
+    }
+
+    fn record(&self, net: &Net, tag: u8, cursor: &mut Cursor) -> Node {
+        let mut node = Node { tag, ..Default::default() };
+        node.parent = cursor.unsigned(2) as usize;
+        if self.makes(Other::ParentLowByte) {
+            node.parent = low_bits(node.parent, 8);
+        }
+        node.length = cursor.number(5);
+        for layer in 1..=net.layers.len() {
+            let bad_before = cursor.bad;
+            node.costs.push(cursor.number(6));
+            if layer == net.layers.len() && self.makes(Other::LastCostUnchecked) {
+                cursor.bad = bad_before;
+            }
+        }
+        if tag == BUFFER {
+            (node.capacitance, node.resistance, node.intrinsic) =
+                (cursor.number(7), cursor.number(8), cursor.number(9));
+        }
+        if tag == SINK && !cursor.left.is_empty() {
+            (node.capacitance, node.time) = (cursor.number(10), cursor.number(11));
+        }
+        node
+    }
+
+    /// Refusal 4.
+    fn room(&self, net: &Net, tag: u8) -> Result<(), u8> {
+        let nodes = 255 + self.makes(Other::Node256Accepted) as usize - self.makes(Other::Node255Refused) as usize;
+        let buffers = 63 + self.makes(Other::Buffer64Accepted) as usize - self.makes(Other::Buffer63Refused) as usize;
+        if net.nodes.len() > nodes || (tag == BUFFER && net.buffers() >= buffers) {
+            Err(4)
+        } else {
+            Ok(())
+        }
+    }
+
+    fn parent_fault(&self, net: &Net, parent: usize) -> Option<u8> {
+        let number = net.nodes.len();
+        if parent >= number {
+            if parent == number && self.makes(Other::OwnParentAccepted) {
+                return None;
+            }
+            return Some(if self.makes(Other::HighParentIsThree) { 3 } else { 5 });
+        }
+        let sink = net.nodes[parent].tag == SINK && !self.makes(Other::SinkParentAccepted);
+        let third_allowed = self.makes(Other::ThirdChildAccepted) || self.makes(Other::ThirdChildAtEnd);
+        let full = net.nodes[parent].children.len() >= 2 && !third_allowed;
+        (sink || full).then_some(5)
+    }
+
+    /// The last test: 6.
+    fn whole(&self, net: &Net) -> Result<(), u8> {
+        if net.third_child && self.makes(Other::ThirdChildAtEnd) {
+            return Err(5);
+        }
+        if net.nodes.len() == 1 && self.makes(Other::ChildlessDriverIsOne) {
+            return Err(1);
+        }
+        let first = if self.makes(Other::ChildlessLast) { net.nodes.len() - 1 } else { 0 };
+        let spared = |node: &Node| node.tag == BUFFER && self.makes(Other::ChildlessBufferAccepted);
+        let childless = |node: &Node| node.tag != SINK && node.children.is_empty() && !spared(node);
+        if net.nodes[first..].iter().any(childless) && !self.makes(Other::ChildlessAccepted) {
+            return Err(6);
+        }
+        Ok(())
+    }
+}
+
+fn read_driver(cursor: &mut Cursor) -> Node {
+    let (resistance, intrinsic, time) = (cursor.number(2), cursor.number(3), cursor.number(4));
+    Node { tag: DRIVER, resistance, intrinsic, time, ..Default::default() }
+}
