@@ -6,31 +6,12 @@
 
 use crate::plain::{Checked, Judged, Planned};
 
-pub type Check =
-    unsafe extern "C" fn(net: *const u8, net_len: usize, nodes: *mut u64, stages: *mut u64, layers: *mut u64) -> u8;
-
-pub type Judge = unsafe extern "C" fn(
-    net: *const u8,
-    net_len: usize,
-    plan: *const u8,
-    plan_len: usize,
-    cost: *mut u64,
-    slack: *mut i64,
-) -> u8;
-
+/// The types of the three calls; the names of their parameters stand at the linked library's below.
+pub type Check = unsafe extern "C" fn(*const u8, usize, *mut u64, *mut u64, *mut u64) -> u8;
+pub type Judge = unsafe extern "C" fn(*const u8, usize, *const u8, usize, *mut u64, *mut i64) -> u8;
+#[rustfmt::skip]
 pub type Plan = unsafe extern "C" fn(
-    net: *const u8,
-    net_len: usize,
-    p: u64,
-    q: u64,
-    table: *mut i64,
-    table_len: usize,
-    plan: *mut u8,
-    plan_len: usize,
-    cost: *mut u64,
-    slack: *mut i64,
-    k: *mut u64,
-    floor: *mut u64,
+    *const u8, usize, u64, u64, *mut i64, usize, *mut u8, usize, *mut u64, *mut i64, *mut u64, *mut u64,
 ) -> u8;
 
 /// The three calls of an implementation.

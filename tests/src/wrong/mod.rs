@@ -3,14 +3,14 @@
 //! planner that makes none.
 
 mod calls;
-mod door;
+mod exported;
 mod mistakes;
 mod rare;
 mod reading;
 mod search;
 mod timing;
 
-pub use door::interface;
+pub use exported::interface;
 pub use mistakes::Mistake;
 use mistakes::Other;
 
