@@ -3,7 +3,7 @@
  *     fuzz SEED SECONDS NET...
  *
  * Random nets are made from the nets in the files, from nets grown here, and from rubbish; vorphiel_check, vorphiel_judge and vorphiel_plan are called on
- * them with random plans, shares, tables and plan buffers. After each call it is seen whether what the header promises came true. There is no second planner
+ * them with random plans, shares, tables and plan buffers, and vorphiel_table_entries with random numbers. After each call it is seen whether what the header promises came true. There is no second planner
  * here: the calls are held against each other and against the header (the comparison with a plain search is in tests/).
  *
  * The library is a finished archive that no sanitizer has seen. So every buffer is lent flush with the start or the end of its pages, with pages that may not
@@ -31,6 +31,7 @@ enum {
     MOST_TABLE = 48 * 1024,  /* entries of a table: more than enough for 64 stages at share 1/4 */
     MOST_PLAN = 300,         /* bytes of a plan or plan buffer */
     MOST_STAGES = 64,
+    CHART_SHARES = 10,       /* the last share of the wall chart is 1/10 */
     MOST_LAYERS = 16,
     MOST_NODES = 256,        /* the driver included */
     MOST_SHARE = 1000,
@@ -162,9 +163,10 @@ static void protect(struct lent *l, int how)
 
 /* ---- The call under way, and the report of a fault ---- */
 
-enum { CHECK, JUDGE, PLANNING, CALLS };
+/* The first three are on a net and have refusal numbers; the chart's call has neither. */
+enum { CHECK, JUDGE, PLANNING, CALLS, TABLE_ENTRIES = CALLS };
 
-static const char *const CALL_NAMES[] = {"vorphiel_check", "vorphiel_judge", "vorphiel_plan"};
+static const char *const CALL_NAMES[] = {"vorphiel_check", "vorphiel_judge", "vorphiel_plan", "vorphiel_table_entries"};
 
 static struct {
     volatile sig_atomic_t under_way;
@@ -173,6 +175,7 @@ static struct {
     uint64_t seed;
     int shared;      /* the net was planned, with this share: */
     uint64_t p, q;
+    uint64_t chart_s, chart_q; /* what vorphiel_table_entries was asked last */
 } now;
 
 /* Only write is used from here on, for the report may come from within a signal. */
@@ -222,6 +225,12 @@ static void say_lent(const struct lent *l, size_t unit)
 /* The lent buffers and the numbers of the call; of the last planning too, if what it gave is being looked at. */
 static void say_call(void)
 {
+    if (now.call == TABLE_ENTRIES) {
+        say_number("# s ", now.chart_s);
+        say_number(", q ", now.chart_q);
+        say("\n");
+        return;
+    }
     say_lent(&lent[NET], 1);
     if (now.call != CHECK)
         say_lent(&lent[PLAN], 1);
@@ -246,7 +255,8 @@ static void fault(const char *what)
     say(CALL_NAMES[now.call]);
     say("\n");
     say_call();
-    say_bytes("", &lent[NET]);
+    if (now.call != TABLE_ENTRIES)
+        say_bytes("", &lent[NET]);
     _exit(1);
 }
 
@@ -318,7 +328,7 @@ static void must(int holds, const char *otherwise)
         fault(otherwise);
 }
 
-/* ---- The three calls, each with what the header says of every answer ---- */
+/* ---- The calls, each with what the header says of every answer ---- */
 
 struct net {
     size_t len;
@@ -442,6 +452,26 @@ static struct answer plan_net(const struct net *net, size_t s, struct asked aske
     must(memcmp(lent[PLAN].at + written, buffer_before + written, asked.buffer - written) == 0, "bytes of the plan buffer beyond the plan were changed");
     memcpy(plan, lent[PLAN].at, written);
     return answer;
+}
+
+/* How often the chart's call was asked for a number on the chart, and for one that is not there. */
+static uint64_t charted, uncharted;
+
+/* The chart's number for s stages and share 1/q, which the header's rule gives; 0 off the chart. */
+static size_t chart_entries(uint64_t s, uint64_t q)
+{
+    int on_chart = s >= 1 && s <= MOST_STAGES && q >= 1 && q <= CHART_SHARES;
+    now.call = TABLE_ENTRIES;
+    now.chart_s = s;
+    now.chart_q = q;
+    now.number++;
+    now.under_way = 1;
+    uint64_t entries = vorphiel_table_entries(s, q);
+    now.under_way = 0;
+    charted += on_chart;
+    uncharted += !on_chart;
+    must(entries == (on_chart ? (s + 2) * (s + 2 * q * s) : 0), "not the chart's number, or one where the chart has none");
+    return entries;
 }
 
 /* ---- Nets as bytes: fields and the numbers in them ---- */
@@ -839,12 +869,14 @@ static uint64_t wild_share(void)
     }
 }
 
-/* A table length that is never too short (the header's rule), or 0 if there is none or it is too long to be lent here. */
+/* A table length that is never too short (the chart's number, or the header's rule), or 0 if there is none or it is too long to be lent here. */
 static size_t enough_entries(size_t s, struct asked asked)
 {
     if (asked.p < 1 || asked.p > MOST_SHARE || asked.q < 1 || asked.q > MOST_SHARE)
         return 0;
-    size_t entries = (s + (2 * asked.q * s + asked.p - 1) / asked.p) * (s + 2);
+    size_t entries = asked.p == 1 ? chart_entries(s, asked.q) : 0;
+    if (entries == 0)
+        entries = (s + (2 * asked.q * s + asked.p - 1) / asked.p) * (s + 2);
     return entries <= MOST_TABLE ? entries : 0;
 }
 
@@ -970,6 +1002,10 @@ static void try_net(void)
 {
     static struct net net;
     uint8_t plan[MOST_PLAN], found_plan[MOST_STAGES];
+    if (one_in(4))
+        chart_entries(any() >> below(64), any() >> below(64));
+    else
+        chart_entries(below(MOST_STAGES + 3), below(CHART_SHARES + 3));
     make_net(&net);
     struct answer counts = check(&net);
     size_t s = counts.results[STAGES];
@@ -1032,6 +1068,7 @@ static void print_summary(void)
     int missing = 0;
     for (int call = 0; call < CALLS; call++)
         missing += print_met(call);
+    printf("%s on the chart %" PRIu64 "; off it %" PRIu64 "\n", CALL_NAMES[TABLE_ENTRIES], charted, uncharted);
     if (missing == 0)
         printf("every number of every call was met\n");
     else

@@ -122,13 +122,17 @@ static int read_file(const char *name, struct bytes *net)
 
 /* How long a table to lend at first, for a net of s stages.
  *
- * With p at least 1 the header's rule gives a length that is never too short. Share 0 has no such rule: the table must have a column for every cost up to the
- * cheapest plan's, which is not known beforehand; so it begins small, and plan_net doubles it. A share that is out of range is refused before the table is
- * looked at, so any length will do; the test stands first, so that nothing is divided by 0 and no product is too large. */
+ * With p at least 1 there is a length that is never too short: the chart's number for the shares 1/1 to 1/10, the header's rule for the others. Share 0 has no
+ * such rule: the table must have a column for every cost up to the cheapest plan's, which is not known beforehand; so it begins small, and plan_net doubles it.
+ * A share that is out of range is refused before the table is looked at, so any length will do; the test stands first, so that nothing is divided by 0 and no
+ * product is too large. */
 static size_t first_entries(uint64_t s, struct share share)
 {
     if (share.p > MOST_SHARE || share.q < 1 || share.q > MOST_SHARE)
         return 1;
+    uint64_t charted = share.p == 1 ? vorphiel_table_entries(s, share.q) : 0;
+    if (charted > 0)
+        return charted;
     uint64_t columns = 64;
     if (share.p > 0)
         columns = s + (2 * share.q * s + share.p - 1) / share.p;

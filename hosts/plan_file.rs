@@ -42,6 +42,8 @@ pub mod vorphiel {
             k: *mut u64,
             floor: *mut u64,
         ) -> u8;
+
+        fn vorphiel_table_entries(s: u64, q: u64) -> u64;
     }
 
     /// The largest p and the largest q of a share p/q.
@@ -149,9 +151,19 @@ pub mod vorphiel {
         accepted(refusal, found)
     }
 
-    /// A table length that is never too short for a net of this many stages: (s + ceil(2qs / p)) * (s + 2). None where there is no such rule: share 0, whose
-    /// table depends on the cost of the cheapest plan, and shares out of range, which are refused whatever the table.
+    /// The wall chart's number: the entries that always serve a net of this many stages, 1 to 64, at share 1/q, q from 1 to 10. None where the chart has none.
+    pub fn table_entries(stages: u64, q: u64) -> Option<u64> {
+        // SAFETY: numbers only, and the call answers for all of them.
+        let entries = unsafe { vorphiel_table_entries(stages, q) };
+        (entries > 0).then_some(entries)
+    }
+
+    /// A table length that is never too short for a net of this many stages: the chart's number where it has one, else (s + ceil(2qs / p)) * (s + 2). None where
+    /// there is no such rule: share 0, whose table depends on the cost of the cheapest plan, and shares out of range, which are refused whatever the table.
     pub fn enough_entries(stages: u64, p: u64, q: u64) -> Option<usize> {
+        if let Some(charted) = table_entries(stages, q).filter(|_| p == 1) {
+            return usize::try_from(charted).ok();
+        }
         if !(1..=MOST_SHARE).contains(&p) || !(1..=MOST_SHARE).contains(&q) {
             return None;
         }

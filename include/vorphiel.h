@@ -1,8 +1,8 @@
 /* The Vorphiel layer planner, for hosts in C and other languages.
  *
  * Every call answers for every input: there is nothing that the caller must see to beforehand, but that each pointer is valid for the length given with it
- * and that lent buffers do not overlap. A call returns a refusal number, 0 if it accepts. On a refusal every result is 0 and no lent buffer is changed, with
- * one exception: after 12 the table of vorphiel_plan is all zero.
+ * and that lent buffers do not overlap. Of the calls on a net each returns a refusal number, 0 if it accepts. On a refusal every result is 0 and no lent buffer
+ * is changed, with one exception: after 12 the table of vorphiel_plan is all zero.
  * docs/CUSTOMERS.md says all this at more length, with a worked example. The numbers are those of the scope document:
  *   1  fewer than three bytes are left where a field is due, or the payload is not all there
  *   2  a tag that is not allowed there, or a length that its kind does not have
@@ -51,12 +51,17 @@ uint8_t vorphiel_judge(const uint8_t *net, size_t net_len, const uint8_t *plan, 
  * after 12.
  *
  * The table is room to work in. Its columns are table_len / (s + 2), rounded down; 12 is given just where they are fewer than the search needs at the grain.
- * With p at least 1, a table of (s + ceil(2qs / p)) * (s + 2) entries is never too short. vorphiel_check gives s, which is 64 at most.
+ * With p at least 1, a table of (s + ceil(2qs / p)) * (s + 2) entries is never too short. vorphiel_check gives s, which is 64 at most; for the shares 1/1 to
+ * 1/10 vorphiel_table_entries gives the length.
  *
  * The caller need not see to what table and plan buffer hold beforehand, to their lengths, to the ranges of p and q, to p/q being in lowest terms, or to
  * whether the net can be read or any plan of it meets timing: each of these is answered by a result or by a number above. */
 uint8_t vorphiel_plan(const uint8_t *net, size_t net_len, uint64_t p, uint64_t q, int64_t *table, size_t table_len,
                       uint8_t *plan, size_t plan_len, uint64_t *cost, int64_t *slack, uint64_t *k, uint64_t *floor);
+
+/* The wall chart of table lengths: the entries that always serve a net of s stages at share 1/q, (s + 2) * (s + 2qs), for s from 1 to 64 and q from 1 to 10. 0
+ * for every other s or q: the chart has no number there. A table that has the chart's number of entries or more is never refused with 12. */
+uint64_t vorphiel_table_entries(uint64_t s, uint64_t q);
 
 #ifdef __cplusplus
 }

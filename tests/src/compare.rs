@@ -242,10 +242,10 @@ impl Comparison {
     /// Check, against a given answer.
     pub fn check_gives(&mut self, case: &Case, expected: Checked) -> Outcome {
         let call = || format!("check, {}", case.name);
-        self.say(call, case);
+        self.say(call, &case.bytes);
         let found = self.host.check(&case.bytes);
         let faults = if found == expected { vec![] } else { vec![String::from("the answer")] };
-        self.settle(call, case, faults, || format!("expected: {expected:?}\nfound:    {found:?}"))
+        self.settle(call, &case.bytes, faults, || format!("expected: {expected:?}\nfound:    {found:?}"))
     }
 
     /// Judge, against the plain search.
@@ -256,10 +256,10 @@ impl Comparison {
     /// Judge, against a given answer.
     pub fn judge_gives(&mut self, case: &Case, plan: &[u8], expected: Judged) -> Outcome {
         let call = || format!("judge, {}, plan {plan:?}", case.name);
-        self.say(call, case);
+        self.say(call, &case.bytes);
         let found = self.host.judge(&case.bytes, plan);
         let faults = if found == expected { vec![] } else { vec![String::from("the answer")] };
-        self.settle(call, case, faults, || format!("expected: {expected:?}\nfound:    {found:?}"))
+        self.settle(call, &case.bytes, faults, || format!("expected: {expected:?}\nfound:    {found:?}"))
     }
 
     /// Plan, against the plain search: the answer, every byte of the buffer, every entry of the table.
@@ -280,12 +280,21 @@ impl Comparison {
     /// Plan, against a given answer. The floor is held to its two bounds.
     pub fn plan_gives(&mut self, case: &Case, asked: &Asked, expected: &Left) -> Outcome {
         let call = || format!("plan, {}, {}", case.name, asked.words());
-        self.say(|| format!("{}\n  {}", call(), asked.contents()), case);
+        self.say(|| format!("{}\n  {}", call(), asked.contents()), &case.bytes);
         let (mut table, mut buffer) = (asked.table.clone(), asked.buffer.clone());
         let answer = self.host.plan(&case.bytes, asked.p, asked.q, &mut table, &mut buffer);
         let found = Left { answer, table, buffer };
         let faults = faults(case, asked, expected, &found);
-        self.settle(call, case, faults, || plan_details(case, asked, expected, &found))
+        self.settle(call, &case.bytes, faults, || plan_details(case, asked, expected, &found))
+    }
+
+    /// The chart's number, against the rule of 02. No net has a part in it.
+    pub fn table_entries(&mut self, s: u64, q: u64) -> Outcome {
+        let call = || format!("table_entries, s {s}, q {q}");
+        self.say(call, &[]);
+        let (expected, found) = (plain::table_entries(s, q), self.host.table_entries(s, q));
+        let faults = if found == expected { vec![] } else { vec![String::from("the answer")] };
+        self.settle(call, &[], faults, || format!("expected: {expected}\nfound:    {found}"))
     }
 
     /// The parameters of a planning call, with garbage in table and buffer.
@@ -302,7 +311,7 @@ impl Comparison {
     fn settle(
         &mut self,
         call: impl Fn() -> String,
-        case: &Case,
+        net: &[u8],
         mut faults: Vec<String>,
         details: impl Fn() -> String,
     ) -> Outcome {
@@ -311,15 +320,15 @@ impl Comparison {
             self.passed += 1;
             return Ok(());
         }
-        let (call, wrong, net) = (call(), faults.join("; "), hex(&case.bytes));
+        let (call, wrong, net) = (call(), faults.join("; "), hex(net));
         let report =
             format!("FAILED call {}: {call}\nwrong:    {wrong}\nnet:      {net}\n{}", self.passed + 1, details());
         Err(Failure { call, report })
     }
 
-    fn say(&self, call: impl Fn() -> String, case: &Case) {
+    fn say(&self, call: impl Fn() -> String, net: &[u8]) {
         if self.trace {
-            eprintln!("{}\n  net {}", call(), hex(&case.bytes));
+            eprintln!("{}\n  net {}", call(), hex(net));
         }
     }
 }

@@ -6,20 +6,22 @@
 
 use crate::plain::{Checked, Judged, Planned};
 
-/// The types of the three calls; the names of their parameters stand at the linked library's below.
+/// The types of the calls; the names of their parameters stand at the linked library's below.
 pub type Check = unsafe extern "C" fn(*const u8, usize, *mut u64, *mut u64, *mut u64) -> u8;
 pub type Judge = unsafe extern "C" fn(*const u8, usize, *const u8, usize, *mut u64, *mut i64) -> u8;
 #[rustfmt::skip]
 pub type Plan = unsafe extern "C" fn(
     *const u8, usize, u64, u64, *mut i64, usize, *mut u8, usize, *mut u64, *mut i64, *mut u64, *mut u64,
 ) -> u8;
+pub type TableEntries = unsafe extern "C" fn(u64, u64) -> u64;
 
-/// The three calls of an implementation.
+/// The calls of an implementation.
 #[derive(Clone, Copy)]
 pub struct Interface {
     pub check: Check,
     pub judge: Judge,
     pub plan: Plan,
+    pub table_entries: TableEntries,
 }
 
 /// The linked library's.
@@ -49,8 +51,14 @@ pub fn linked() -> Option<Interface> {
             k: *mut u64,
             floor: *mut u64,
         ) -> u8;
+        fn vorphiel_table_entries(s: u64, q: u64) -> u64;
     }
-    Some(Interface { check: vorphiel_check, judge: vorphiel_judge, plan: vorphiel_plan })
+    Some(Interface {
+        check: vorphiel_check,
+        judge: vorphiel_judge,
+        plan: vorphiel_plan,
+        table_entries: vorphiel_table_entries,
+    })
 }
 
 /// This build has none.
@@ -186,6 +194,12 @@ impl Host {
         plan.copy_from_slice(lent_plan.content());
         let [cost, slack, k, floor] = self.results([&cost, &slack, &k, &floor]);
         Planned { refusal, cost, slack: slack as i64, k, floor }
+    }
+
+    /// Nothing is lent here, so there is nothing to complain of.
+    pub fn table_entries(&mut self, s: u64, q: u64) -> u64 {
+        // Safe: numbers only.
+        unsafe { (self.interface.table_entries)(s, q) }
     }
 
     /// The results of a call.

@@ -1,4 +1,4 @@
-//! The plain search: document 01 written out, simple and slow.
+//! The plain search: document 01 (and what has come of 02) written out, simple and slow.
 //!
 //! It shares no code and no definition with the planner. The words in quotes above a function are the
 //! sentence of 01 that it stands for. All numbers are 128 bits wide, so nothing here can overflow.
@@ -612,4 +612,35 @@ pub fn permitted_floor(p: u64, q: u64, cost: u64, floor: u64, cheapest: i128) ->
 /// Results have 64 bits.
 fn narrow<T: TryFrom<i128>>(number: i128) -> T {
     T::try_from(number).ok().expect("every result of a net fits 64 bits")
+}
+
+// ------------------------------------------------------------------------------------------------
+// 02, wish 1: the wall chart
+// ------------------------------------------------------------------------------------------------
+
+/// "for s from 1 to 64 and shares 1/1, 1/2, to 1/10".
+pub const CHART_STAGES: u64 = 64;
+pub const CHART_SHARES: u64 = 10;
+
+/// "the entries that always serve, (s + 2) × (s plus 2qs/p rounded up)", with p = 1; 0 where the chart has none.
+pub fn table_entries(s: u64, q: u64) -> u64 {
+    if s < 1 || s > CHART_STAGES || q < 1 || q > CHART_SHARES {
+        return 0;
+    }
+    let (s, p, q) = (s as i128, 1, q as i128);
+    let whole = 2 * q * s / p;
+    let rounded_up = if whole * p == 2 * q * s { whole } else { whole + 1 };
+    ((s + 2) * (s + rounded_up)) as u64
+}
+
+/// "print the 640 numbers, a line for each s, ten numbers with one space between".
+pub fn chart_text() -> String {
+    let mut text = String::new();
+    for s in 1..=CHART_STAGES {
+        for q in 1..=CHART_SHARES {
+            text += &table_entries(s, q).to_string();
+            text.push(if q == CHART_SHARES { '\n' } else { ' ' });
+        }
+    }
+    text
 }

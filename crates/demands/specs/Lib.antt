@@ -7,3 +7,4 @@ pub mod Demand2
 pub mod Demand3
 pub mod Columns
 pub mod Call
+pub mod Chart

@@ -8,3 +8,4 @@ pub mod Bounds
 pub mod Fits
 pub mod Costs
 pub mod Refusals
+pub mod Chart

@@ -1,3 +1,1 @@
-pub mod Joining
-pub mod Decimal
-pub mod Times
+pub mod Layers

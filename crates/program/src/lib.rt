@@ -8,7 +8,7 @@ ghost use lib.ListN.{length, drop};
 ghost use Rattle.io.specs.Counts.{Counts};
 ghost use Rattle.rules.specs.Grain.{maxExponent};
 ghost use Rattle.rules.specs.Program.{programLine};
-ghost use Rattle.line.specs.Placing.{maxLine};
+ghost use Rattle.line.specs.Length.{maxLine};
 
 // 2^k, by doubling: the grain.
 fn grain(k: u64) -> u64

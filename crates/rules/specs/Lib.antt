@@ -5,5 +5,7 @@ pub mod Grain
 pub mod Reading
 pub mod Judging
 pub mod Planning
+pub mod Text
 pub mod Program
+pub mod Chart
 pub mod Examples

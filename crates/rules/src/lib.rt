@@ -26,6 +26,9 @@ pub const MAX_CHILDREN: u16 = 2;
 // The limit of p and q (01, Planning: refusal 9); specs/Planning.antt has it for the definitions.
 pub const MAX_SHARE: u64 = 1_000;
 
+// The shares of the chart, 1/1 to 1/10 (02, wish 1); specs/Chart.antt has their number for the definitions.
+pub const CHART_SHARES: u64 = 10;
+
 // The kind of a node after the driver, with the numbers of its own (01, Net bytes, tags 3 to 5).
 pub enum Kind {
     Steiner,

@@ -16,6 +16,7 @@ ghost use Rattle.laws.specs.Basic.{within};
 ghost use Rattle.rules.specs.Reading.{check};
 ghost use Rattle.rules.specs.Judging.{judge};
 ghost use Rattle.rules.specs.Planning.{maxShare, planAnswer, plan, FloorPromise, Demand2, Demand3};
+ghost use Rattle.rules.specs.Chart.{tableEntries};
 ghost use Rattle.planning.specs.Calls.{PlansNet};
 ghost use Rattle.vorphiel.specs.Answers.{netRefusal};
 
@@ -213,4 +214,20 @@ pub extern "C" fn vorphiel_plan(
     *k = answer.k;
     *floor = answer.floor;
     answer.refusal
+}
+
+// The chart's number (02, wish 1): the entries of a table that always serves a net of s stages at share 1/q, 0 where the chart has none. That planning never
+// refuses such a table with 12 is `chart-serves` in crates/demands/specs/Chart.antt.
+pub fn table_entries(s: u64, q: u64) -> u64
+    ensures { λ r. ⌜ r ≡ tableEntries s q ⌝ }
+{
+    chart::table_entries(s, q)
+}
+
+// The chart's number for hosts in other languages.
+#[no_mangle]
+pub extern "C" fn vorphiel_table_entries(s: u64, q: u64) -> u64
+    ensures { λ r. ⌜ r ≡ tableEntries s q ⌝ }
+{
+    table_entries(s, q)
 }

@@ -1,5 +1,6 @@
 //! The sets of calls that are compared.
 
+mod chart;
 mod limits;
 mod order;
 mod planning;
@@ -14,11 +15,13 @@ use crate::rows;
 pub fn all(c: &mut Comparison, seed: u64, count: usize) -> Outcome {
     rows::run(c)?;
     order::run(c)?;
+    chart::fixed(c)?;
     limits::numbers(c)?;
     reading::fixed(c)?;
     universe::run(c)?;
     limits::nets(c)?;
     let mut random = Random::new(seed);
+    chart::random(c, &mut Random::new(seed ^ 0xC4), 10 * count)?;
     reading::damaged(c, &mut random, 4 + count / 40)?;
     planning::small_nets(c, &mut random, count)?;
     limits::random(c, &mut random, count / 100)?;

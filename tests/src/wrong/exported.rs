@@ -20,7 +20,7 @@ thread_local! {
 pub fn interface(mistake: Mistake) -> Interface {
     WRONG.set(Wrong { mistake });
     LAST.take();
-    Interface { check, judge, plan }
+    Interface { check, judge, plan, table_entries }
 }
 
 unsafe extern "C" fn check(net: *const u8, net_len: usize, nodes: *mut u64, stages: *mut u64, layers: *mut u64) -> u8 {
@@ -87,6 +87,10 @@ unsafe extern "C" fn plan(
         }
     }
     refusal
+}
+
+unsafe extern "C" fn table_entries(s: u64, q: u64) -> u64 {
+    WRONG.get().table_entries(s, q)
 }
 
 impl Wrong {

@@ -3,6 +3,7 @@
 //! planner that makes none.
 
 mod calls;
+mod chart;
 mod exported;
 mod mistakes;
 mod rare;

@@ -2,19 +2,20 @@
 use borrow.Author.Needs.{needs}
 use native.Mathlib.Omega.{arith}
 use mir.Facts.{toZ-ofZ}
-use Rattle.rules.specs.Program.{decimalZ, planLine}
-use Rattle.line.specs.Placing.{Placed}
-use Rattle.line.proofs.Joining.{joined, front, Within, within-start, within-more}
-use Rattle.line.proofs.Decimal.{number-length}
-use Rattle.line.proofs.Times.{time-length}
+use Rattle.rules.specs.Text.{decimalZ}
+use Rattle.rules.specs.Program.{planLine}
+use Rattle.text.specs.Placing.{Placed}
+use Rattle.text.proofs.Joining.{joined, front, Within, within-start, within-more}
+use Rattle.text.proofs.Decimal.{number-length}
+use Rattle.text.proofs.Times.{time-length}
 use Rattle.line.proofs.plan_line.Statement.{statement}
 use Rattle.line.proofs.plan_line.Tie as tie
 use Rattle.line.proofs.plan_line.Reads as reads
 use Rattle.line.proofs.plan_line.Lts as lts
-use Rattle.line.proofs.put.Reads as put-reads
-use Rattle.line.proofs.put_field.Reads as put-field-reads
+use Rattle.text.proofs.put.Reads as put-reads
+use Rattle.text.proofs.put_field.Reads as put-field-reads
 use Rattle.line.proofs.put_layers.Reads as put-layers-reads
-use Rattle.line.proofs.put_time.Reads as put-time-reads
+use Rattle.text.proofs.put_time.Reads as put-time-reads
 
 -- The way back from each part to the one before it.
 abbrev cost-of : tie.After-put-field2 → tie.After-put-field

@@ -4,15 +4,17 @@ use Prim.Native.Nat.{_≤_, _-_, _+_, _*_}
 use mathlib.Core.Path.{_≡_, refl}
 use native.Mathlib.Omega.{arith}
 use lib.ListN.{length, take, getD}
-use Rattle.rules.specs.Program.{decimal, layerNumbers}
-use Rattle.line.specs.Placing.{Placed}
-use Rattle.line.proofs.Joining.{nothing, layer-put, layers-put}
-use Rattle.line.proofs.Decimal.{byte-length}
+use Rattle.rules.specs.Text.{decimal}
+use Rattle.rules.specs.Program.{layerNumbers}
+use Rattle.text.specs.Placing.{Placed}
+use Rattle.text.proofs.Joining.{nothing}
+use Rattle.line.proofs.Layers.{layer-put, layers-put}
+use Rattle.text.proofs.Decimal.{byte-length}
 use Rattle.line.proofs.put_layers.Statement.{statement}
 use Rattle.line.proofs.put_layers.Tie as tie
 use Rattle.line.proofs.put_layers.Reads as reads
 use Rattle.line.proofs.put_layers.Lts as lts
-use Rattle.line.proofs.put_field.Reads as put-field-reads
+use Rattle.text.proofs.put_field.Reads as put-field-reads
 
 abbrev Inv-loop : tie.InvT-loop
 Inv-loop plan out₀ at next₀ i₀ t6 out next i = (length out ≡ length out₀) × (i ≤ length plan) × (next ≤ at + 4 * i) × Placed (layerNumbers (take i plan)) at out₀ out next

@@ -2,14 +2,14 @@
 use borrow.Author.Needs.{needs}
 use native.Mathlib.Omega.{arith}
 use Rattle.rules.specs.Program.{refusedLine}
-use Rattle.line.proofs.Joining.{joined, front}
-use Rattle.line.proofs.Decimal.{byte-length}
+use Rattle.text.proofs.Joining.{joined, front}
+use Rattle.text.proofs.Decimal.{byte-length}
 use Rattle.line.proofs.refused_line.Statement.{statement}
 use Rattle.line.proofs.refused_line.Tie as tie
 use Rattle.line.proofs.refused_line.Reads as reads
 use Rattle.line.proofs.refused_line.Lts as lts
-use Rattle.line.proofs.put.Reads as put-reads
-use Rattle.line.proofs.put_field.Reads as put-field-reads
+use Rattle.text.proofs.put.Reads as put-reads
+use Rattle.text.proofs.put_field.Reads as put-field-reads
 
 slice-aggregate-put-field : tie.Need-slice-aggregate-put-field
 slice-aggregate-put-field c = search needs

@@ -1,11 +1,11 @@
 -- `size` is right: the size of a time below 0 is one more than -1 - t, which is 0 or more.
 use borrow.Author.Needs.{needs}
 use native.Mathlib.Omega.{arith}
-use Rattle.line.proofs.Times.{Below, below, From, from}
-use Rattle.line.proofs.size.Statement.{statement}
-use Rattle.line.proofs.size.Tie as tie
-use Rattle.line.proofs.size.Reads as reads
-use Rattle.line.proofs.size.Lts as lts
+use Rattle.text.proofs.Times.{Below, below, From, from}
+use Rattle.text.proofs.size.Statement.{statement}
+use Rattle.text.proofs.size.Tie as tie
+use Rattle.text.proofs.size.Reads as reads
+use Rattle.text.proofs.size.Lts as lts
 
 minus : (c : tie.Then1) → Below (c .before .args .t)
 minus c = below _ (c .before .fits .t) (c .if1 .taken)

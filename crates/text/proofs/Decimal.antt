@@ -9,7 +9,7 @@ use lib.Dec.{ltb}
 use lib.ListN.{length, length-append}
 use borrow.Author.Tests.{ltb-true, ltb-false, lt-ltb, le-ltb}
 use Rattle.io.specs.Digits.{digits, Fewest}
-use Rattle.rules.specs.Program.{digit, decimalFrom, decimal}
+use Rattle.rules.specs.Text.{digit, decimalFrom, decimal}
 
 -- n / 10 has one digit less.
 one-less : (n k : ℕ) → n < 10 ^ suc k → n / 10 < 10 ^ k

@@ -4,16 +4,16 @@ use mathlib.Core.Path.{_≡_, ap, sym, _∙_}
 use mathlib.Core.List.{_++_}
 use native.Mathlib.Omega.{arith}
 use lib.ListN.{length}
-use Rattle.rules.specs.Program.{minusSign, decimal, decimalZ}
-use Rattle.line.proofs.Joining.{joined}
-use Rattle.line.proofs.Times.{below, from}
-use Rattle.line.proofs.put_time.Statement.{statement}
-use Rattle.line.proofs.put_time.Tie as tie
-use Rattle.line.proofs.put_time.Reads as reads
-use Rattle.line.proofs.put_time.Lts as lts
-use Rattle.line.proofs.put.Reads as put-reads
-use Rattle.line.proofs.put_number.Reads as put-number-reads
-use Rattle.line.proofs.size.Reads as size-reads
+use Rattle.rules.specs.Text.{minusSign, decimal, decimalZ}
+use Rattle.text.proofs.Joining.{joined}
+use Rattle.text.proofs.Times.{below, from}
+use Rattle.text.proofs.put_time.Statement.{statement}
+use Rattle.text.proofs.put_time.Tie as tie
+use Rattle.text.proofs.put_time.Reads as reads
+use Rattle.text.proofs.put_time.Lts as lts
+use Rattle.text.proofs.put.Reads as put-reads
+use Rattle.text.proofs.put_number.Reads as put-number-reads
+use Rattle.text.proofs.size.Reads as size-reads
 
 minus : (c : tie.Then1) → decimalZ (c .before .before .before .args .t) ≡ minusSign ++ decimal (c .before .size .result)
 minus c = below _ (c .before .before .before .fits .t) (c .if1 .taken) .bytes ∙ ap (λ n. minusSign ++ decimal n) (sym (c .before .size .ensures))

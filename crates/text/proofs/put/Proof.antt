@@ -5,11 +5,11 @@ use mathlib.Core.Path.{_≡_, refl}
 use native.Mathlib.Omega.{arith}
 use lib.ListN.{length, length-set}
 use lib.Seq.{paste, paste-zero}
-use Rattle.line.proofs.Joining.{copied, copied-more}
-use Rattle.line.proofs.put.Statement.{statement}
-use Rattle.line.proofs.put.Tie as tie
-use Rattle.line.proofs.put.Reads as reads
-use Rattle.line.proofs.put.Lts as lts
+use Rattle.text.proofs.Joining.{copied, copied-more}
+use Rattle.text.proofs.put.Statement.{statement}
+use Rattle.text.proofs.put.Tie as tie
+use Rattle.text.proofs.put.Reads as reads
+use Rattle.text.proofs.put.Lts as lts
 
 abbrev Inv-loop : tie.InvT-loop
 Inv-loop text out₀ at i₀ out i = (length out ≡ length out₀) × (i ≤ length text) × (out ≡ paste out₀ at text i)

@@ -4,10 +4,6 @@ use mathlib.Core.List.{List, _++_}
 use Prim.Native.Nat.{ℕ, _+_, _≤_}
 use lib.ListN.{length, take, drop}
 
--- The longest line of at most 64 stages: 5 + 20 bytes for the cost, 7 + 20 for g, 7 + 20 for slack, 5 + 64 × 4 for the layers, 1 for the line feed.
-abbrev pub maxLine : ℕ
-maxLine = 341
-
 -- `after` is `before` with `text` put at `at`; the text ends at `next`, within the buffer.
 pub record Placed (text : List ℕ) (at : ℕ) (before after : List ℕ) (next : ℕ) : Type 0 where
   pub bytes : after ≡ take at before ++ text ++ drop next before

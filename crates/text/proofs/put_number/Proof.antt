@@ -3,14 +3,14 @@ use borrow.Author.Needs.{needs}
 use mathlib.Core.Path.{_≡_, ap, _∙_}
 use native.Mathlib.Omega.{arith}
 use lib.ListN.{length, take}
-use Rattle.rules.specs.Program.{decimal}
-use Rattle.line.proofs.Decimal.{digits-decimal}
-use Rattle.line.proofs.put_number.Statement.{statement}
-use Rattle.line.proofs.put_number.Tie as tie
-use Rattle.line.proofs.put_number.Reads as reads
-use Rattle.line.proofs.put_number.Lts as lts
+use Rattle.rules.specs.Text.{decimal}
+use Rattle.text.proofs.Decimal.{digits-decimal}
+use Rattle.text.proofs.put_number.Statement.{statement}
+use Rattle.text.proofs.put_number.Tie as tie
+use Rattle.text.proofs.put_number.Reads as reads
+use Rattle.text.proofs.put_number.Lts as lts
 use Rattle.io.proofs.decimal.Reads as decimal-reads
-use Rattle.line.proofs.put.Reads as put-reads
+use Rattle.text.proofs.put.Reads as put-reads
 
 written : (c : tie.After-decimal) → take (c .decimal .result) (c .decimal .last .1 .0) ≡ decimal (c .before .before .before .args .n)
 written c = c .decimal .ensures .1 .1 ∙ digits-decimal _ _ (c .decimal .ensures .1 .0)

@@ -1,12 +1,12 @@
 -- `put_field` is right: the word is put, and the digits of the number after it.
 use borrow.Author.Needs.{needs}
-use Rattle.line.proofs.Joining.{joined}
-use Rattle.line.proofs.put_field.Statement.{statement}
-use Rattle.line.proofs.put_field.Tie as tie
-use Rattle.line.proofs.put_field.Reads as reads
-use Rattle.line.proofs.put_field.Lts as lts
-use Rattle.line.proofs.put.Reads as put-reads
-use Rattle.line.proofs.put_number.Reads as put-number-reads
+use Rattle.text.proofs.Joining.{joined}
+use Rattle.text.proofs.put_field.Statement.{statement}
+use Rattle.text.proofs.put_field.Tie as tie
+use Rattle.text.proofs.put_field.Reads as reads
+use Rattle.text.proofs.put_field.Lts as lts
+use Rattle.text.proofs.put.Reads as put-reads
+use Rattle.text.proofs.put_number.Reads as put-number-reads
 
 put-requires : tie.Need-put-requires
 put-requires c κs = search needs

@@ -12,8 +12,8 @@ use mir.Syntax.{w64}
 use mir.Val.{SFits, toZ, ofZ}
 use mir.Facts.{toZ-ofZ}
 use Rattle.laws.specs.Integers.{up, down, add-view, same-view}
-use Rattle.rules.specs.Program.{minusSign, decimal, decimalZ}
-use Rattle.line.proofs.Decimal.{decimal-length}
+use Rattle.rules.specs.Text.{minusSign, decimal, decimalZ}
+use Rattle.text.proofs.Decimal.{decimal-length}
 
 -- A time takes at most 20 bytes: a sign and 19 digits.
 pub time-length : (t : ℤ) → SFits w64 t → length (decimalZ t) ≤ 20

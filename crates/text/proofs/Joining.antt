@@ -1,15 +1,14 @@
--- Texts put one after the other are one text put there, so a line's contract follows from those of its parts.
+-- Texts put one after the other are one text put there, so the contract of a whole text follows from those of its parts.
 use mathlib.Core.Path.{_≡_, refl, ap, sym, _∙_}
-use mathlib.Core.List.{List, [], _∷_, _++_, append-assoc, append-nil}
+use mathlib.Core.List.{List, [], _++_, append-assoc, append-nil}
 use Prim.Native.Nat.{ℕ, _+_, _≤_, _<_}
 use native.Mathlib.Omega.{arith}
 use native.Mathlib.Numerals.{add-one}
 use lib.ListN.{length, take, drop, getD, set, length-append, length-drop, take-append-drop}
-use lib.Seq.{length-take-le, take-length, take-at, drop-at, drop-drop, take-suc, take-all, paste, paste-suc}
+use lib.Seq.{length-take-le, take-length, take-at, drop-at, drop-drop, paste, paste-suc}
 use Rattle.io.specs.Counts.{Counts}
 use Rattle.io.proofs.Counting.{counts}
-use Rattle.rules.specs.Program.{space, numberField, layerNumbers}
-use Rattle.line.specs.Placing.{Placed}
+use Rattle.text.specs.Placing.{Placed}
 
 -- The copy of all of `text`, as the loop of `put` leaves it.
 pub copied : (text before after : List ℕ) (at i : ℕ) → i ≡ length text → at + i ≤ length before → after ≡ paste before at text i → Placed text at before after (at + i)
@@ -87,33 +86,11 @@ pub within-more : {most mid next : ℕ} {t before middle after : List ℕ} (k : 
     → Within (most + k) before after next
 within-more k w p h = record { short = omega (arith, w .short, p .ends); long = same-length p ∙ w .long }
 
--- A text put at the front of a buffer, as the two lines' contracts say it.
+-- A text put at the front of a buffer, as the contracts of whole texts say it.
 pub front : {text before after : List ℕ} {next : ℕ} → Placed text 0 before after next
     → (next ≡ length text) × ((after ≡ text ++ drop next before) × Counts next after)
 front p = (omega (arith, p .ends), (p .bytes, counts _ _ (omega (arith, p .room, same-length p))))
 
--- The numbers of the layers of two parts of a plan.
-layers-append : (xs ys : List ℕ) → layerNumbers (xs ++ ys) ≡ layerNumbers xs ++ layerNumbers ys
-unfolding layerNumbers
-layers-append [] ys = refl
-layers-append (x ∷ xs) ys =
-    ap (λ (s : List ℕ). numberField space x ++ s) (layers-append xs ys) ∙ sym (append-assoc (numberField space x) (layerNumbers xs) (layerNumbers ys))
-
--- One layer more is put after the first i.
-pub layer-put : (plan : List ℕ) (i : ℕ) {before middle after : List ℕ} {at mid next : ℕ} → i < length plan
-    → Placed (layerNumbers (take i plan)) at before middle mid → Placed (numberField space (getD plan i 0)) mid middle after next
-    → Placed (layerNumbers (take (i + 1) plan)) at before after next
-unfolding layerNumbers
-layer-put plan i h first second = rw more (joined first second)
-  where
-    more : layerNumbers (take (i + 1) plan) ≡ layerNumbers (take i plan) ++ numberField space (getD plan i 0)
-    more =
-        ap (λ (k : ℕ). layerNumbers (take k plan)) (add-one i)
-        ∙ ap layerNumbers (take-suc plan i 0 h)
-        ∙ layers-append (take i plan) (getD plan i 0 ∷ [])
-        ∙ ap (λ (s : List ℕ). layerNumbers (take i plan) ++ s) (append-nil (numberField space (getD plan i 0)))
-
--- All layers are put.
-pub layers-put : (plan : List ℕ) (i : ℕ) {before after : List ℕ} {at next : ℕ} → length plan ≤ i
-    → Placed (layerNumbers (take i plan)) at before after next → Placed (layerNumbers plan) at before after next
-layers-put plan i h p = rw (take-all i plan h) at p
+-- The bytes that it then opens with.
+pub opening : {text before after : List ℕ} {next : ℕ} → Placed text 0 before after next → take next after ≡ text
+opening p = middle-head p

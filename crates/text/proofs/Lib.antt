@@ -1,0 +1,4 @@
+pub mod Joining
+pub mod Separated
+pub mod Decimal
+pub mod Times

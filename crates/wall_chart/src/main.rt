@@ -1,0 +1,6 @@
+// Prints the wall chart of table lengths (02, wish 1): a line for each s from 1 to 64, ten numbers with one space between, for shares 1/1 to 1/10.
+fn main() {
+    let mut out = [0u8; 3840];
+    let length = chart_text::write_chart(&mut out);
+    io::write_all(1, &out[..length]);
+}
