@@ -34,9 +34,9 @@ carried i [] e k h = absurd (omega arith)
 carried i (x ∷ xs) e zero h = eqb-true x (due i) (and-left (eqb x (due i)) (follows (suc i) xs) e) ∙ ap due (omega arith)
 carried i (x ∷ xs) e (suc k) h = carried (suc i) xs (and-right (eqb x (due i)) (follows (suc i) xs) e) k (omega arith) ∙ ap due (omega arith)
 
--- The rule at each entry.
-pub charted : {xs : List ℕ} → Charted xs → {s q : ℕ} → OnChart s q → getD xs (place s q) 0 ≡ chartEntry s q
-charted {xs} C {s} {q} on = carried 0 xs (C .rule) (place s q) (omega (arith, C .whole)) ∙ cc (line, column)
+-- The rule carried to each entry.
+pub charted-entry : {xs : List ℕ} → Charted xs → {s q : ℕ} → OnChart s q → getD xs (place s q) 0 ≡ chartEntry s q
+charted-entry {xs} C {s} {q} on = carried 0 xs (C .rule) (place s q) (omega (arith, C .whole)) ∙ cc (line, column)
   where
     line : (0 + place s q) / chartShares + 1 ≡ s
     line = omega arith

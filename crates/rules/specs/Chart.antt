@@ -38,12 +38,12 @@ chartRow s = between space (map (λ q. decimal (chartEntry s q)) (from 1 chartSh
 unfoldable pub chartText : List ℕ
 chartText = between lineFeed (map chartRow (from 1 maxStages)) ++ lineFeed
 
--- Numbers and lines of the chart, by computing the definitions: the first line, the last number, what stands outside the chart.
-pub charted : (chartRow 1 ≡ ascii "9 15 21 27 33 39 45 51 57 63")
+-- The first and the last line, the last number, and what a host is told just outside the chart, by computing the definitions.
+pub chart-rows : (chartRow 1 ≡ ascii "9 15 21 27 33 39 45 51 57 63")
     × (chartRow 64 ≡ ascii "12672 21120 29568 38016 46464 54912 63360 71808 80256 88704")
     × (tableEntries 64 10 ≡ 88704) × (tableEntries 0 1 ≡ 0) × (tableEntries 65 1 ≡ 0) × (tableEntries 1 0 ≡ 0) × (tableEntries 1 11 ≡ 0)
 unfolding enoughColumns chartEntry tableEntries chartRow decimalFrom decimal
-charted = (refl, refl, refl, refl, refl, refl, refl)
+chart-rows = (refl, refl, refl, refl, refl, refl, refl)
 
 -- A text's numbers line by line, as a reader takes them, with a number n and the numbers `row` of a line begun: a space ends a number, a line feed a number
 -- and a line. What no line feed ends is no line.

@@ -1,4 +1,4 @@
-// The open calls of the layer planner. Each answers for every input; each contract is one equation with the rules of document 01.
+// The open calls of the layer planner. Each answers for every input; each contract is one equation with the rules of documents 01 and 02.
 use fields::within;
 use planning::plan_net;
 use planning::refused;

@@ -1,6 +1,6 @@
 -- `entry` is right: what holds of the whole table holds at the place that is read.
 use borrow.Author.Needs.{needs}
-use Rattle.chart.specs.Charted.{charted}
+use Rattle.chart.specs.Charted.{charted-entry}
 use Rattle.chart.proofs.entry.Statement.{statement}
 use Rattle.chart.proofs.entry.Tie as tie
 use Rattle.chart.proofs.entry.Reads as reads
@@ -29,7 +29,7 @@ array-read-result : tie.Need-array-read-result
 array-read-result c = search needs
 
 returns : tie.Need-returns
-returns c = charted (c .table .ensures) (c .before .pre)
+returns c = charted-entry (c .table .ensures) (c .before .pre)
 
 pub entry-spec : {M : Type 1} → statement M
 entry-spec =

@@ -1,6 +1,6 @@
 -- `put_row` is right: after the number for q the numbers for 1 to q stand at `at`, one space between, and each takes at most six bytes with its space.
 use borrow.Author.Needs.{needs}
-use mathlib.Core.Path.{_≡_, refl, ap, sym, _∙_}
+use mathlib.Core.Path.{_≡_, refl}
 use Prim.Native.Nat.{_+_, _*_, _-_, _≤_}
 use native.Mathlib.Omega.{arith}
 use lib.ListN.{length}

@@ -8,6 +8,7 @@ use Rattle.rules.specs.Bytes.{maxStages}
 use Rattle.rules.specs.Text.{lineFeed}
 use Rattle.rules.specs.Chart.{chartRow, chartText, numbersIn, printed-table}
 use Rattle.text.specs.Placing.{Placed}
+use Rattle.chart_text.specs.Length.{maxRow}
 use Rattle.text.proofs.Joining.{joined, front, opening}
 use Rattle.text.proofs.Joining as joining
 use Rattle.text.proofs.Separated.{later, later-start, later-put, between-put}
@@ -20,7 +21,7 @@ use Rattle.text.proofs.put.Reads as put-reads
 
 abbrev Inv-loop : tie.InvT-loop
 Inv-loop out₀ next₀ s₀ t4 t5 out next s =
-    (length out ≡ length out₀) × (1 ≤ s) × (s ≤ maxStages) × (next + 1 ≤ 60 * s) × Placed (later lineFeed chartRow s) next₀ out₀ out next
+    (length out ≡ length out₀) × (1 ≤ s) × (s ≤ maxStages) × (next + 1 ≤ (maxRow + 1) * s) × Placed (later lineFeed chartRow s) next₀ out₀ out next
 
 abbrev μ-loop : tie.MeasureT-loop
 μ-loop out₀ next₀ s₀ t4 t5 out next s = maxStages - s
