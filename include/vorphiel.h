@@ -60,7 +60,8 @@ uint8_t vorphiel_plan(const uint8_t *net, size_t net_len, uint64_t p, uint64_t q
                       uint8_t *plan, size_t plan_len, uint64_t *cost, int64_t *slack, uint64_t *k, uint64_t *floor);
 
 /* The wall chart of table lengths: the entries that always serve a net of s stages at share 1/q, (s + 2) * (s + 2qs), for s from 1 to 64 and q from 1 to 10. 0
- * for every other s or q: the chart has no number there. A table that has the chart's number of entries or more is never refused with 12. */
+ * for every other s or q: the chart has no number there. A net of s stages that is planned with share 1/q and a table of the chart's length or longer is never
+ * refused with 12. */
 uint64_t vorphiel_table_entries(uint64_t s, uint64_t q);
 
 #ifdef __cplusplus

@@ -10,8 +10,8 @@ const STORED: &str = include_str!("../../../crates/wall_chart/stdout");
 /// The same calls every time: the chart and a wide margin around it; numbers of which the low bits alone are on it.
 pub fn fixed(c: &mut Comparison) -> Outcome {
     assert_eq!(plain::chart_text(), STORED, "the stored chart");
-    for s in 0..=700 {
-        for q in 0..=70 {
+    for s in 0..=300 {
+        for q in 0..=40 {
             c.table_entries(s, q)?;
         }
     }
@@ -24,11 +24,11 @@ pub fn fixed(c: &mut Comparison) -> Outcome {
     for (s, q) in [(u64::MAX, 1), (1, u64::MAX), (u64::MAX, u64::MAX), (64, u64::MAX - 9), (u64::MAX - 63, 10)] {
         c.table_entries(s, q)?;
     }
-    served(c)
+    Ok(())
 }
 
 /// "the entries that always serve": nets that need as many columns as they can, planned with a table of just that length.
-fn served(c: &mut Comparison) -> Outcome {
+pub fn served(c: &mut Comparison) -> Outcome {
     for (stages, cost) in [(1, 1), (2, 3), (9, 15), (30, 31), (64, 1), (64, 15), (64, 63), (64, 1_000_000)] {
         let case =
             Case::searched(&format!("{stages} stages of cost {cost}"), &nets::even_line(stages, cost).bytes(), 2_000);

@@ -20,6 +20,7 @@ pub fn all(c: &mut Comparison, seed: u64, count: usize) -> Outcome {
     reading::fixed(c)?;
     universe::run(c)?;
     limits::nets(c)?;
+    chart::served(c)?;
     let mut random = Random::new(seed);
     chart::random(c, &mut Random::new(seed ^ 0xC4), 10 * count)?;
     reading::damaged(c, &mut random, 4 + count / 40)?;
