@@ -3,8 +3,9 @@
  *     fuzz SEED SECONDS NET...
  *
  * Random nets are made from the nets in the files, from nets grown here, and from rubbish; vorphiel_check, vorphiel_judge and vorphiel_plan are called on
- * them with random plans, shares, tables and plan buffers, and vorphiel_table_entries with random numbers. After each call it is seen whether what the header promises came true. There is no second planner
- * here: the calls are held against each other and against the header (the comparison with a plain search is in tests/).
+ * them with random plans, shares, tables and plan buffers, and vorphiel_table_entries with random numbers. After each call it is seen whether what the header
+ * promises came true. There is no second planner here: the calls are held against each other and against the header (the comparison with a plain search is in
+ * tests/).
  *
  * The library is a finished archive that no sanitizer has seen. So every buffer is lent flush with the start or the end of its pages, with pages that may not
  * be touched before and behind, and what is only to be read stands in pages that cannot be written: a stray read or write ends in a signal.

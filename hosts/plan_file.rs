@@ -161,8 +161,9 @@ pub mod vorphiel {
     /// A table length that is never too short for a net of this many stages: the chart's number where it has one, else (s + ceil(2qs / p)) * (s + 2). None where
     /// there is no such rule: share 0, whose table depends on the cost of the cheapest plan, and shares out of range, which are refused whatever the table.
     pub fn enough_entries(stages: u64, p: u64, q: u64) -> Option<usize> {
-        if let Some(charted) = table_entries(stages, q).filter(|_| p == 1) {
-            return usize::try_from(charted).ok();
+        let charted = if p == 1 { table_entries(stages, q) } else { None };
+        if let Some(entries) = charted {
+            return usize::try_from(entries).ok();
         }
         if !(1..=MOST_SHARE).contains(&p) || !(1..=MOST_SHARE).contains(&q) {
             return None;

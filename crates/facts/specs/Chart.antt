@@ -31,6 +31,7 @@ module _ (s q : ℕ) where
   unfolding tableEntries
   told-shares a b = simp (a, b)
 
+  -- At most 64 + 2 × 10 × 64 columns of 64 + 2 rows.
   pub entry-low : OnChart s q → chartEntry s q < 100000
   unfolding chartEntry enoughColumns
   entry-low on =

@@ -1,11 +1,11 @@
 -- The layers of a plan put one after the other, a space before each.
-use mathlib.Core.Path.{_≡_, ap, _∙_}
-use mathlib.Core.List.{List, [], _∷_, _++_, map, map-append}
+use mathlib.Core.Path.{_≡_}
+use mathlib.Core.List.{List, _++_, map, map-append}
 use Prim.Native.Nat.{ℕ, _+_, _≤_, _<_}
 use native.Mathlib.Numerals.{add-one}
 use lib.ListN.{length, take, getD}
 use lib.Seq.{take-suc, take-all}
-use Rattle.rules.specs.Text.{space, decimal, numberField, eachAfter}
+use Rattle.rules.specs.Text.{space, decimal, numberField}
 use Rattle.rules.specs.Program.{layerNumbers}
 use Rattle.text.specs.Placing.{Placed}
 use Rattle.text.proofs.Joining.{joined}

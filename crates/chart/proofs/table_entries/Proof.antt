@@ -1,11 +1,11 @@
 -- `table_entries` is right: it makes the definition's two tests in their order, and what passes both is on the chart.
 use borrow.Author.Needs.{needs}
 use mathlib.Core.Path.{_≡_, sym, _∙_}
-use mathlib.Core.Bool.{true, false}
+use mathlib.Core.Bool.{true}
 use borrow.Author.Tests.{not-true, not-false}
 use Rattle.laws.specs.Basic.{within}
 use Rattle.rules.specs.Bytes.{maxStages}
-use Rattle.rules.specs.Chart.{chartShares, OnChart}
+use Rattle.rules.specs.Chart.{OnChart}
 use Rattle.facts.specs.Chart.{on-chart, told-on, told-stages, told-shares}
 use Rattle.chart.proofs.table_entries.Statement.{statement}
 use Rattle.chart.proofs.table_entries.Tie as tie
