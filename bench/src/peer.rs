@@ -4,7 +4,9 @@
 //! The method (source 000's oracle, source 001's merging, section 4.2): each stage's delays and costs on each layer;
 //! for a grain g a row of latest times over budgets for each stage, from the last stage to the first, branches merged
 //! by two pointers; the plan read off the rows; from the largest k down until the share's test holds. A plan that is
-//! known to meet timing bounds V(k), and budgets count what is spent above each stage's least rounded cost.
+//! known to meet timing bounds V(k), and budgets count what is spent above each stage's least rounded cost. A row has
+//! entries only where they matter, in its band: from the first budget that meets the earliest time at which its stage
+//! can be reached to the first that meets the latest, or as much as the largest budget meets.
 
 use crate::library::{Counts, Judged, Planned, Refusal};
 
@@ -247,13 +249,16 @@ fn judged(net: &Net, (above, driven): &(Vec<usize>, Vec<usize>), plan: &[u8]) ->
     Judged { cost, slack: required[0] - arrival(net) }
 }
 
-/// The tree of stages in numbers: what a stage drives, the delay to it, its own limit and its cost on each layer.
+/// The tree of stages in numbers: what a stage drives, the delay to it, its own limit and its cost on each layer, and
+/// from when to when it can be reached, whatever the layers.
 #[derive(Clone)]
 struct Tree {
     driven: Vec<Vec<usize>>,
     delay: Vec<OnLayers<i64>>,
     limit: Vec<OnLayers<i64>>,
     cost: Vec<OnLayers<u64>>,
+    early: Vec<i64>,
+    late: Vec<i64>,
     layers: usize,
     arrival: i64,
 }
@@ -285,12 +290,13 @@ fn delays(net: &Net) -> Vec<OnLayers<u64>> {
 }
 
 fn tree(net: &Net, (above, below): &(Vec<usize>, Vec<usize>)) -> Tree {
-    let (s, layers) = (net.stages, net.layers.len());
+    let (s, layers, arrival) = (net.stages, net.layers.len(), arrival(net));
     let node_delay = delays(net);
     let mut driven = vec![vec![]; s];
     let mut delay = vec![[0; MOST_LAYERS]; s];
     let mut limit = vec![[NO_LIMIT; MOST_LAYERS]; s];
     let mut cost = vec![[0; MOST_LAYERS]; s];
+    let (mut early, mut late) = (vec![arrival; s], vec![arrival; s]);
     for (number, node) in net.nodes.iter().enumerate().skip(1) {
         let stage = above[number];
         for layer in 0..layers {
@@ -298,8 +304,11 @@ fn tree(net: &Net, (above, below): &(Vec<usize>, Vec<usize>)) -> Tree {
         }
         match node.kind {
             Kind::Buffer { .. } => {
-                driven[stage].push(below[number]);
-                delay[below[number]] = node_delay[number].map(|ticks| ticks as i64);
+                let j = below[number];
+                driven[stage].push(j);
+                delay[j] = node_delay[number].map(|ticks| ticks as i64);
+                early[j] = early[stage] + delay[j][..layers].iter().min().expect("a layer");
+                late[j] = late[stage] + delay[j][..layers].iter().max().expect("a layer");
             }
             Kind::Sink { required, .. } => {
                 for layer in 0..layers {
@@ -309,18 +318,45 @@ fn tree(net: &Net, (above, below): &(Vec<usize>, Vec<usize>)) -> Tree {
             _ => {}
         }
     }
-    Tree { driven, delay, limit, cost, layers, arrival: arrival(net) }
+    Tree { driven, delay, limit, cost, early, late, layers, arrival }
 }
 
 // ------------------------------------------------------------------------------------------------
 // The search
 // ------------------------------------------------------------------------------------------------
 
-/// Rows `a` and `b` merged, `b` over a delay: of two pointers the one with the lesser entry steps.
-fn merge(a: &[i64], b: &[i64], delay: i64, out: &mut [i64]) {
+/// The band of each stage's row: the columns from `start` to before `end`. No other entry is read.
+struct Bands {
+    start: [usize; MOST_STAGES],
+    end: [usize; MOST_STAGES],
+}
+
+/// The entries of a row from column `start` on, over a delay: each is that much earlier.
+struct Part<'a> {
+    start: usize,
+    times: &'a [i64],
+    delay: i64,
+}
+
+/// A part under a limit: as it stands if no time that is asked, `late` at most, is after the limit, else copied.
+fn limited<'a>(part: Part<'a>, limit: i64, late: i64, copy: &'a mut [i64]) -> Part<'a> {
+    if late <= limit {
+        return part;
+    }
+    let copy = &mut copy[..part.times.len()];
+    for (entry, time) in copy.iter_mut().zip(part.times) {
+        *entry = limit.min(time - part.delay);
+    }
+    Part { start: part.start, times: copy, delay: 0 }
+}
+
+/// Parts `a` and `b` merged: of two pointers the one with the lesser entry steps, until one of the parts or `out` has
+/// no more. Gives the number of entries.
+fn merge(a: &Part, b: &Part, out: &mut [i64]) -> usize {
     let (mut i, mut j) = (0, 0);
     for entry in out {
-        let (x, y) = (a[i], b[j] - delay);
+        let (Some(x), Some(y)) = (a.times.get(i), b.times.get(j)) else { break };
+        let (x, y) = (x - a.delay, y - b.delay);
         if x <= y {
             *entry = x;
             i += 1;
@@ -329,54 +365,102 @@ fn merge(a: &[i64], b: &[i64], delay: i64, out: &mut [i64]) {
             j += 1;
         }
     }
+    i + j
 }
 
-/// The row of each stage at the grain g.
-fn fill_rows(tree: &Tree, table: &mut [i64], g: u64, width: usize) {
-    let s = tree.driven.len();
-    let (rows, merging) = table.split_at_mut(s * width);
-    let (mut merged, rest) = merging.split_at_mut(width);
-    let mut spare = &mut rest[..width];
-    for i in (0..s).rev() {
-        let (upper, lower) = rows.split_at_mut((i + 1) * width);
-        let own = &mut upper[i * width..];
-        own.fill(NEVER);
-        for layer in 0..tree.layers {
-            let cost = (tree.cost[i][layer] / g) as usize;
-            if cost >= width {
-                continue;
-            }
-            let limit = tree.limit[i][layer];
-            merged.fill(limit);
-            for (turn, &j) in tree.driven[i].iter().enumerate() {
-                let row = &lower[(j - i - 1) * width..(j - i) * width];
-                let delay = tree.delay[j][layer];
-                if turn == 0 {
-                    for (entry, time) in merged.iter_mut().zip(row) {
-                        *entry = limit.min(time - delay);
-                    }
-                } else {
-                    merge(merged, row, delay, spare);
-                    std::mem::swap(&mut merged, &mut spare);
-                }
-            }
-            for (entry, &time) in own.iter_mut().skip(cost).zip(merged.iter()) {
-                *entry = time.max(*entry);
-            }
-        }
+/// A row that is filled before column `top` becomes the later of itself and a part at a cost. Gives the new top.
+fn spend(row: &mut [i64], top: usize, part: &Part, cost: usize) -> usize {
+    let start = cost + part.start;
+    let end = start + part.times.len();
+    if top < end {
+        row[top..end].fill(NEVER);
+    }
+    for (entry, time) in row[start..end].iter_mut().zip(part.times) {
+        *entry = (time - part.delay).max(*entry);
+    }
+    top.max(end)
+}
+
+/// Raises a row from left to right: a larger budget is never worse.
+fn raise(row: &mut [i64]) {
+    let mut best = NEVER;
+    for entry in row {
+        best = best.max(*entry);
+        *entry = best;
     }
 }
 
-/// V(k), or `width` if it does not fit.
-fn value_at(tree: &Tree, table: &mut [i64], g: u64, width: usize) -> usize {
-    fill_rows(tree, table, g, width);
-    table[..width].partition_point(|&time| time < tree.arrival)
+/// The columns of a raised row that matter for times from `early` to `late`: from the first that meets `early` to the
+/// first that meets `late`, or as much as the last does.
+fn cut(row: &[i64], early: i64, late: i64) -> (usize, usize) {
+    let start = row.partition_point(|&time| time < early);
+    let kept = &row[start..];
+    let Some(&last) = kept.last() else { return (start, start) };
+    let most = late.min(last);
+    (start, start + kept.partition_point(|&time| time < most) + 1)
+}
+
+/// The row of stage i at the grain g, from the rows of the later stages: the best of its layers. There is room for two
+/// rows of merging. Gives the end of the columns that are filled.
+fn fill_row(tree: &Tree, i: usize, g: u64, later: &[i64], bands: &Bands, room: &mut [i64], own: &mut [i64]) -> usize {
+    let width = own.len();
+    let (mut merged, mut spare) = room.split_at_mut(width);
+    let mut top = 0;
+    for layer in 0..tree.layers {
+        let (cost, limit) = ((tree.cost[i][layer] / g) as usize, tree.limit[i][layer]);
+        if cost >= width || limit < tree.early[i] {
+            continue;
+        }
+        let left = width - cost;
+        let mut parts = tree.driven[i].iter().map(|&j| {
+            let (start, end) = (bands.start[j].min(left), bands.end[j].min(left));
+            Part { start, times: &later[(j - i - 1) * width..][start..end], delay: tree.delay[j][layer] }
+        });
+        let mut joined = match parts.next() {
+            Some(first) => limited(first, limit, tree.late[i], merged),
+            None => Part { start: 0, times: &tree.limit[i][layer..=layer], delay: 0 },
+        };
+        for part in parts {
+            let start = left.min(joined.start + part.start);
+            let count = merge(&joined, &part, &mut spare[..left - start]);
+            std::mem::swap(&mut merged, &mut spare);
+            joined = Part { start, times: &merged[..count], delay: 0 };
+        }
+        top = spend(own, top, &joined, cost);
+    }
+    top
+}
+
+/// The row of each stage at the grain g, raised and cut to its band.
+fn fill_rows(tree: &Tree, table: &mut [i64], g: u64, width: usize) -> Bands {
+    let s = tree.driven.len();
+    let (rows, room) = table.split_at_mut(s * width);
+    let mut bands = Bands { start: [0; MOST_STAGES], end: [0; MOST_STAGES] };
+    for i in (0..s).rev() {
+        let (upper, later) = rows.split_at_mut((i + 1) * width);
+        let own = &mut upper[i * width..];
+        let top = fill_row(tree, i, g, later, &bands, room, own);
+        raise(&mut own[..top]);
+        (bands.start[i], bands.end[i]) = cut(&own[..top], tree.early[i], tree.late[i]);
+    }
+    bands
+}
+
+/// The first column of a stage's row that meets a time, or `width` if there is none in its band.
+fn column(table: &[i64], bands: &Bands, width: usize, stage: usize, time: i64) -> usize {
+    let (start, end) = (bands.start[stage], bands.end[stage]);
+    let found = start + table[stage * width..][start..end].partition_point(|&entry| entry < time);
+    if found < end {
+        found
+    } else {
+        width
+    }
 }
 
 /// The first plan of rounded cost V(k): stage after stage the lowest layer that attains the least.
-fn read_off(tree: &Tree, table: &[i64], g: u64, width: usize, plan: &mut [u8]) {
+fn read_off(tree: &Tree, table: &[i64], bands: &Bands, g: u64, width: usize, plan: &mut [u8]) {
     let s = tree.driven.len();
-    let column = |stage: usize, time: i64| table[stage * width..][..width].partition_point(|&entry| entry < time);
+    let column = |stage: usize, time: i64| column(table, bands, width, stage, time);
     let mut times = [tree.arrival; MOST_STAGES];
     for i in 0..s {
         let time = times[i];
@@ -392,6 +476,17 @@ fn read_off(tree: &Tree, table: &[i64], g: u64, width: usize, plan: &mut [u8]) {
             times[j] = time + tree.delay[j][layer];
         }
     }
+}
+
+/// V(k), if it is below `width`, and its first plan into `plan`.
+fn value_at(tree: &Tree, table: &mut [i64], g: u64, width: usize, plan: &mut [u8]) -> Option<usize> {
+    let bands = fill_rows(tree, table, g, width);
+    let value = column(table, &bands, width, 0, tree.arrival);
+    if value == width {
+        return None;
+    }
+    read_off(tree, table, &bands, g, width, plan);
+    Some(value)
 }
 
 /// The tree with each stage's least rounded cost taken off its costs, and the sum of what was taken off.
@@ -419,12 +514,7 @@ fn plan_at(tree: &Tree, table: &mut [i64], g: u64, columns: usize, bound: usize,
         return None;
     }
     let width = columns.min(bound + 1) - base;
-    let spent = value_at(&excess, table, 1, width);
-    if spent == width {
-        return None;
-    }
-    read_off(&excess, table, 1, width, known);
-    Some(base + spent)
+    Some(base + value_at(&excess, table, 1, width, known)?)
 }
 
 /// From the largest k down, the first that qualifies: k and V(k), and its first plan into `known`.
@@ -447,12 +537,7 @@ fn descend(tree: &Tree, table: &mut [i64], p: u64, q: u64, known: &mut [u8]) -> 
 
 /// A plan that meets timing: at the largest grain every rounded cost is 0, so one column is enough.
 fn feasible(tree: &Tree, known: &mut [u8]) -> bool {
-    let mut table = [0; MOST_STAGES + 2];
-    if value_at(tree, &mut table, 1 << MOST_K, 1) == 1 {
-        return false;
-    }
-    read_off(tree, &table, 1 << MOST_K, 1, known);
-    true
+    value_at(tree, &mut [0; MOST_STAGES + 2], 1 << MOST_K, 1, known).is_some()
 }
 
 /// Plan.

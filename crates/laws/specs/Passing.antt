@@ -1,7 +1,7 @@
 -- Laws of lists in general: equal tests keep equal members; sums and least values over numbers in order, one number more at the end.
 use mathlib.Core.Path.{_≡_, refl, _∙_}
 use mathlib.Core.Bool.{Bool, true, false}
-use mathlib.Core.List.{List, [], _∷_, map, List·Memᴰ, List·Memᴰ·head, List·Memᴰ·tail, List·Memᴰ·not-nil}
+use mathlib.Core.List.{List, [], _∷_, map, List·Memᴰ, List·Memᴰ·head, List·Memᴰ·tail}
 use Prim.Native.Nat.{ℕ, zero, suc, _+_, _-_, _≤_, _<_, min}
 use native.Mathlib.Omega.{arith}
 use native.Mathlib.Nat.{add-zero}
@@ -52,20 +52,10 @@ module _ (test : ℕ → Bool) (f : ℕ → ℕ) where
       let m : a + (b + n - a) ≡ b + n = omega arith in
       rw k (last-counts a (b + n - a) ∙ rw (m, none (b + n) (omega arith) (omega arith)) (omega (arith, passing-skip a b n h (λ j u v. none j u (omega arith)))))
 
--- A member counts in the sum.
-pub sum-member {ℓ} : {A : Type ℓ} (f : A → ℕ) {x : A} (xs : List A) → List·Memᴰ x xs → f x ≤ sum (map f xs)
-sum-member f [] m = absurd (List·Memᴰ·not-nil m)
-sum-member f (y ∷ ys) (List·Memᴰ·head e) = rw e (omega arith)
-sum-member f (y ∷ ys) (List·Memᴰ·tail m) = omega (arith, sum-member f ys m)
-
 -- The least of `most` and the first n values of f, as a loop takes it.
 abbrev pub leastUpTo : ℕ → (ℕ → ℕ) → ℕ → ℕ
 leastUpTo most f zero = most
 leastUpTo most f (suc n) = min (leastUpTo most f n) (f n)
-
-pub leastUpTo-most : (most : ℕ) (f : ℕ → ℕ) (n : ℕ) → leastUpTo most f n ≤ most
-leastUpTo-most most f zero = omega arith
-leastUpTo-most most f (suc n) = omega (arith, leastUpTo-most most f n)
 
 lowest-last : (f : ℕ → ℕ) (a n : ℕ) → lowest f (from a (suc (suc n))) ≡ min (lowest f (from a (suc n))) (f (suc a + n))
 lowest-last f a zero = rw (add-zero (suc a))

@@ -9,3 +9,5 @@ pub mod ReadOff
 pub mod Rows
 pub mod Table
 pub mod Result
+pub mod Band
+pub mod Windows

@@ -7,7 +7,6 @@ use mathlib.Core.Logic.{_↔_}
 use mathlib.Core.List.{List, [], _∷_, List·Memᴰ, List·Memᴰ·head, List·Memᴰ·tail}
 use Prim.Native.Nat.{ℕ, zero, suc, _+_, _*_, _-_, _≤_, _<_, min}
 use native.Mathlib.Omega.{arith}
-use native.Mathlib.Decide.{decLe}
 use lib.Dec.{leb}
 use lib.IntN.{ℤ, pos, _+ℤ_, _-ℤ_}
 use lib.Signed.{leZ}
@@ -46,10 +45,6 @@ module _ (lo : ℤ) (hi : ℕ) where
   -- Functions that agree as far as hi + 1 have the same rows.
   pub dual-same : (A : ℕ → ℤ) (f g : ℤ → ℕ) → ((t : ℤ) → min (f t) (suc hi) ≡ min (g t) (suc hi)) → Dual A f → Dual A g
   dual-same A f g e D w h t from-lo = D w h t from-lo ∙ leb-same (f t) w (g t) w (λ a. omega (arith, e t)) (λ a. omega (arith, e t))
-
-  -- No time at any budget up to hi.
-  pub dual-never : (never : ℤ) → leZ lo never ≡ false → Dual (λ w. never) (λ t. suc hi)
-  dual-never never low w h t from-lo = false-le t never (omega (arith, le-false lo never low, le-true lo t from-lo)) ∙ sym (lt-leb (suc hi) w (omega arith))
 
   -- Over a delay d.
   pub dual-shift : (A : ℕ → ℤ) (f : ℤ → ℕ) (d : ℕ) → Dual A f → Dual (λ w. A w -ℤ pos d) (λ t. f (t +ℤ pos d))
@@ -140,12 +135,3 @@ module _ (lo : ℤ) (hi : ℕ) (A : ℕ → ℤ) (f : ℤ → ℕ) (D : Dual lo 
           → (if b then w else columnFrom A t (suc w) n) ≡ min (f t) (suc hi)
       go true q k = omega (arith, leb-true (f t) w (sym (D w (omega arith) t from-lo) ∙ q))
       go false q k = k (leb-false (f t) w (sym (D w (omega arith) t from-lo) ∙ q))
-
-  -- In any other way, as by halving: column c is it if its entry reaches t (or c is hi + 1) and the entry before it does not.
-  pub column-found : (c : ℕ) → c ≤ suc hi → (c ≤ hi → leZ t (A c) ≡ true) → ((w : ℕ) → suc w ≡ c → leZ t (A w) ≡ false) → c ≡ min (f t) (suc hi)
-  column-found zero h reaches before = omega (arith, leb-true (f t) 0 (sym (D 0 (omega arith) t from-lo) ∙ reaches (omega arith)))
-  column-found (suc w) h reaches before = go (decLe (suc w) hi) (leb-false (f t) w (sym (D w (omega arith) t from-lo) ∙ before w refl))
-    where
-      go : Dec (suc w ≤ hi) → w < f t → suc w ≡ min (f t) (suc hi)
-      go (yes a) k = omega (arith, leb-true (f t) (suc w) (sym (D (suc w) a t from-lo) ∙ reaches a))
-      go (no a) k = omega arith

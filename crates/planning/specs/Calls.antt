@@ -27,7 +27,7 @@ use Rattle.demands.specs.Call.{share-in, all-late, all-pass, plan-accepted}
 use Rattle.timing.specs.Tables.{Fitting, fitting}
 use Rattle.costs.specs.Priced.{Priced}
 use Rattle.readoff.specs.Laid.{Laid}
-use Rattle.search.specs.Problem.{Problem}
+use Rattle.rounds.specs.Problem.{Problem}
 use Rattle.search.specs.Planned.{IsLate, IsShort, IsFound}
 use Rattle.planning.specs.Outcomes.{problem-of, late, short, served, Served, TooShort, floor-is}
 

@@ -23,7 +23,7 @@ use Rattle.demands.specs.Values.{small-costs, grain-small}
 use Rattle.demands.specs.Demand2.{chosen-is}
 use Rattle.demands.specs.Demand3.{chosen-floor}
 use Rattle.readoff.specs.Laid.{Laid}
-use Rattle.search.specs.Problem.{Problem}
+use Rattle.rounds.specs.Problem.{Problem}
 use Rattle.search.specs.Planned.{IsLate, IsShort, IsFound}
 
 -- the search's problem, from the numbers of the net

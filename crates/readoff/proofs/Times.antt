@@ -1,55 +1,67 @@
--- A stage passes its time on: the times of the stages before j are passed on, the others are as they were.
+-- A stage passes its time on along the links: the times of the stages before j are passed on, the others are as they were.
 use mathlib.Core.Path.{_≡_, refl, _∙_}
 use mathlib.Core.Logic.{_⊎_, inl, inr}
 use mathlib.Core.List.{List}
-use Prim.Native.Nat.{ℕ, _+_, _≤_, _<_}
+use Prim.Native.Nat.{ℕ, suc, _≤_, _<_}
 use native.Mathlib.Omega.{arith}
+use native.Mathlib.Decide.{decLe}
 use lib.IntN.{ℤ, pos}
 use lib.ListN.{length, getD, set, length-set}
 use lib.Seq.{getD-set-same, getD-set-other}
 use borrow.Author.Tests.{eq-eqb, ne-eqb}
 use Rattle.laws.specs.Booleans.{same-or}
+use Rattle.fanout.specs.Contracts.{NextDriven, Linked}
 use Rattle.oracle.specs.Stages.{StageTree, reach}
 use Rattle.readoff.specs.Laid.{Laid}
 use Rattle.readoff.specs.Contracts.{arriveAt, timeAt, reachAt, Pushed}
 
--- Stages i + 1 to j - 1 have their times; `before` is the slice of times at the start.
+-- Stages i + 1 to j - 1 have their times, and j is the next that stage i drives; `before` is the slice of times at the start.
 pub record Pushing (driver delay : List ℕ) (before : List ℤ) (stages i l : ℕ) (times : List ℤ) (j : ℕ) : Type 0 where
   pub started : i < j
   pub inside : j ≤ stages
+  pub driven : j < stages → getD driver j 0 ≡ i
   pub long : length times ≡ length before
   pub passed : (m : ℕ) → i < m → m < j → timeAt times m ≡ reachAt driver delay i l before m
   pub others : (m : ℕ) → j ≤ m → timeAt times m ≡ timeAt before m
 
-module _ {driver delay : List ℕ} {before : List ℤ} {stages i l : ℕ} where
-  pub pushing-start : i < stages → Pushing driver delay before stages i l before (i + 1)
-  pushing-start h = record { started = omega arith; inside = omega arith; long = refl; passed = λ m a b. absurd (omega arith); others = λ m a. refl }
+-- A stage that stage i does not drive keeps its time.
+stays : (driver delay : List ℕ) (before : List ℤ) (i l m : ℕ) → (getD driver m 0 ≡ i → ⊥) → timeAt before m ≡ reachAt driver delay i l before m
+stays driver delay before i l m other = rw (ne-eqb (getD driver m 0) i other) refl
 
-  module _ {times : List ℤ} {j : ℕ} (here : Pushing driver delay before stages i l times j) (h : j < stages) where
-    -- Stage j gets the value that is due, and the others stay.
-    next : (after : List ℤ) → length after ≡ length times → timeAt after j ≡ reachAt driver delay i l before j
-        → ((m : ℕ) → (m ≡ j → ⊥) → timeAt after m ≡ timeAt times m) → Pushing driver delay before stages i l after (j + 1)
-    next after same due kept = record {
-      started = omega (arith, here .started);
-      inside = omega arith;
-      long = same ∙ here .long;
-      passed = λ m a b. go m a b (same-or j m);
-      others = λ m a. kept m (λ e. omega arith) ∙ here .others m (omega arith);
+module _ {driver delay : List ℕ} {before : List ℤ} {stages i l : ℕ} where
+  module _ {first next : List ℕ} (links : Linked driver first next stages) where
+    pub pushing-start : i < stages → Pushing driver delay before stages i l before (getD first i 0)
+    pushing-start h = let N = links .first-is i h in record {
+      started = N .low;
+      inside = N .most;
+      driven = N .driven;
+      long = refl;
+      passed = λ m a b. stays driver delay before i l m (N .passed m a b);
+      others = λ m a. refl;
+    }
+
+    -- Stage j gets its time, and the stages up to the next that stage i drives keep theirs.
+    pub pushing-more : {times : List ℤ} {j : ℕ} {x : ℤ} → Pushing driver delay before stages i l times j → stages ≤ length before → j < stages
+        → x ≡ arriveAt delay j l (timeAt before i) → Pushing driver delay before stages i l (set times j x) (getD next j 0)
+    pushing-more {times} {j} {x} here long h value = record {
+      started = omega (arith, here .started, N .low);
+      inside = N .most;
+      driven = N .driven;
+      long = length-set times j x ∙ here .long;
+      passed = λ m a b. go m a b (same-or j m) (decLe m j);
+      others = λ m a. kept m (λ e. omega (arith, N .low)) ∙ here .others m (omega (arith, N .low));
     }
       where
-        go : (m : ℕ) → i < m → m < j + 1 → (m ≡ j) ⊎ (m ≡ j → ⊥) → timeAt after m ≡ reachAt driver delay i l before m
-        go m a b (inl e) = rw e due
-        go m a b (inr n) = kept m n ∙ here .passed m a (omega arith)
+        N : NextDriven driver stages i (suc j) (getD next j 0)
+        N = rw (here .driven h) at (links .next-is j (omega (arith, here .started)) h)
 
-    pub pushing-skip : (getD driver j 0 ≡ i → ⊥) → Pushing driver delay before stages i l times (j + 1)
-    pushing-skip other = next times refl (rw (ne-eqb (getD driver j 0) i other) (here .others j (omega arith))) (λ m n. refl)
+        kept : (m : ℕ) → (m ≡ j → ⊥) → timeAt (set times j x) m ≡ timeAt times m
+        kept m n = getD-set-other times j m x (pos 0) n
 
-    pub pushing-set : {x : ℤ} → stages ≤ length before → getD driver j 0 ≡ i → x ≡ arriveAt delay j l (timeAt before i)
-        → Pushing driver delay before stages i l (set times j x) (j + 1)
-    pushing-set {x} long driven value =
-        next (set times j x) (length-set times j x)
-        (rw (eq-eqb (getD driver j 0) i driven) (getD-set-same times j x (pos 0) (omega (arith, here .long)) ∙ value))
-        (λ m n. getD-set-other times j m x (pos 0) n)
+        go : (m : ℕ) → i < m → m < getD next j 0 → (m ≡ j) ⊎ (m ≡ j → ⊥) → Dec (m ≤ j) → timeAt (set times j x) m ≡ reachAt driver delay i l before m
+        go m a b (inl e) d = rw (e, eq-eqb (getD driver j 0) i (here .driven h)) (getD-set-same times j x (pos 0) (omega (arith, here .long)) ∙ value)
+        go m a b (inr n) (yes low) = kept m n ∙ here .passed m a (omega arith)
+        go m a b (inr n) (no high) = kept m n ∙ here .others m (omega arith) ∙ stays driver delay before i l m (N .passed m (omega arith) b)
 
   pub pushing-end : {times : List ℤ} {j : ℕ} → Pushing driver delay before stages i l times j → stages ≤ j → Pushed driver delay before stages i l times
   pushing-end here h = record { is = λ m a b. here .passed m a (omega arith) }

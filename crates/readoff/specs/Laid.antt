@@ -1,16 +1,17 @@
 -- The numbers of a tree of stages laid out in slices, and its work table in one slice with the rows one after the other. Stage i's number on layer l
 -- stands at i * 16 + l, whatever the number of layers.
 use mathlib.Core.Path.{_≡_}
+use mathlib.Core.Bool.{Bool, true}
 use mathlib.Core.List.{List, [], _∷_}
-use Prim.Native.Nat.{ℕ, _+_, _*_, _-_, _^_, _≤_, _<_}
+use Prim.Native.Nat.{ℕ, _+_, _*_, _-_, _/_, _^_, _≤_, _<_}
 use lib.ListN.{length, getD}
 use lib.IntN.{ℤ, pos}
 use Rattle.laws.specs.Basic.{leastOf}
 use Rattle.laws.specs.Integers.{up, down}
 use Rattle.rules.specs.Bytes.{maxLayers, maxTime}
-use Rattle.oracle.specs.Stages.{StageTree}
+use Rattle.oracle.specs.Stages.{StageTree, arrive}
 use Rattle.oracle.specs.Timing.{leastAt}
-use Rattle.oracle.specs.Rows.{Dual}
+use Rattle.oracle.specs.Band.{Band}
 
 -- Entry w of the row that starts at `off`.
 abbrev pub rowAt : List ℤ → ℕ → ℕ → ℤ
@@ -53,6 +54,9 @@ pub record Laid (T : StageTree) (driver delay : List ℕ) (limit : List ℤ) (co
   pub cost-most : (i l : ℕ) → i < T .stages → l < T .layers → T .cost i l < 2 ^ 28
   pub arrival-most : (up (T .arrival) ≤ maxTime) × (down (T .arrival) ≤ maxTime)
 
--- Every row is dual to the least charges of its stage at the grain 2^k, for times from lo on.
-pub record Filled (T : StageTree) (k : ℕ) (lo : ℤ) (width : ℕ) (table : List ℤ) : Type 0 where
-  pub dual : (i : ℕ) → i < T .stages → Dual lo (width - 1) (rowAt table (i * width)) (leastAt T k (width - 1) i)
+-- The band of every stage stands for its least charges at the grain 2^k, for the times that are asked of it; and a stage is asked what its driving stage,
+-- on a layer that can be paid, passes on.
+pub record Filled (T : StageTree) (k : ℕ) (asked : ℕ → ℤ → Bool) (width : ℕ) (table : List ℤ) (starts ends : List ℕ) : Type 0 where
+  pub band : (i : ℕ) → i < T .stages → Band (asked i) (width - 1) (rowAt table (i * width)) (getD starts i 0) (getD ends i 0) (leastAt T k (width - 1) i)
+  pub passes : (j l : ℕ) → 0 < j → j < T .stages → l < T .layers → T .cost (T .driver j) l / 2 ^ k ≤ width - 1 → (t : ℤ) → asked (T .driver j) t ≡ true
+      → asked j (arrive T j l t) ≡ true

@@ -1,3 +1,4 @@
 pub mod Laid
 pub mod RowSets
 pub mod Contracts
+pub mod NearTimes

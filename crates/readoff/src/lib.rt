@@ -7,23 +7,23 @@ ghost use Rattle.rules.specs.Bytes.{maxLayers};
 ghost use Rattle.readoff.specs.Laid.{onLayer, maxDelay};
 ghost use Rattle.readoff.specs.Contracts.{Near, Column, arriveAt, DrivenIn, Driven, Sized, Need, Layer, PushIn, Pushed, ReadIn, PlanRead};
 
-// The first column of the row at `off` whose entry is no earlier than t, and `width` if there is none, by halving: the entries never fall.
-pub fn first_column(table: &[i64], off: usize, width: usize, t: i64) -> usize
-    requires { ⌜ (0 < width) × (off + width ≤ length (now table)) ⌝ }
-    ensures { λ r. ⌜ Column (now (table .entry)) off width t r ⌝ }
+// The first column of the row at `off` whose entry is no earlier than t, in its band from `start` to before `end`, and `width` if there is none.
+pub fn first_column(
+    table: &[i64],
+    off: usize,
+    start: usize,
+    end: usize,
+    width: usize,
+    t: i64,
+) -> usize
+    requires { ⌜ (0 < width) × (start ≤ end) × (end ≤ width) × (off + width ≤ length (now table)) ⌝ }
+    ensures { λ r. ⌜ Column (now (table .entry)) off start end width t r ⌝ }
 {
-    let mut low: usize = 0;
-    let mut high = width;
-    while low < high {
-        let mid = low + (high - low) / 2;
-        let x = table[off + mid];
-        if t <= x {
-            high = mid;
-        } else {
-            low = mid + 1;
-        }
+    let c = bands::first_column(table, off, start, end, t);
+    if c < end {
+        return c;
     }
-    low
+    width
 }
 
 // When stage j is reached, if the stage that drives it is on layer l and is reached at t.
@@ -35,34 +35,37 @@ fn reached_at(delay: &[u64], j: usize, l: usize, t: i64) -> i64
     t + (d as i64)
 }
 
-// What stage j needs if stage i, on layer l and reached at t, drives it; else 0.
+// What stage j needs, if the stage that drives it is on layer l and is reached at t.
 fn driven_need(
     table: &[i64],
-    driver: &[usize],
     delay: &[u64],
+    starts: &[usize],
+    ends: &[usize],
     width: usize,
-    i: usize,
     l: usize,
     t: i64,
     j: usize,
 ) -> usize
-    requires { ⌜ DrivenIn (now table) (now driver) (now delay) width l t j ⌝ }
-    ensures { λ r. ⌜ Driven (now (table .entry)) (now (driver .entry)) (now (delay .entry)) width i l t j r ⌝ }
+    requires { ⌜ DrivenIn (now table) (now delay) (now starts) (now ends) width l t j ⌝ }
+    ensures { λ r. ⌜ Driven (now (table .entry)) (now (delay .entry)) (now (starts .entry)) (now (ends .entry)) width l t j r ⌝ }
 {
-    if driver[j] != i {
-        return 0;
-    }
     let reached = reached_at(delay, j, l, t);
-    first_column(table, j * width, width, reached)
+    let start = starts[j];
+    let end = ends[j];
+    first_column(table, j * width, start, end, width, reached)
 }
 
 // What stage i on layer l, reached at t, needs with all that it drives; `width` or more if that is above every budget.
 fn need_on(
     table: &[i64],
     driver: &[usize],
+    first: &[usize],
+    next: &[usize],
     delay: &[u64],
     limit: &[i64],
     cost: &[u64],
+    starts: &[usize],
+    ends: &[usize],
     stages: usize,
     width: usize,
     g: u64,
@@ -70,8 +73,10 @@ fn need_on(
     l: usize,
     t: i64,
 ) -> usize
-    requires { ⌜ ((T : StageTree) × Sized T (now table) (now driver) (now delay) (now limit) (now cost) stages width g × (l < T .layers)) × (i < stages) × Near t ⌝ }
-    ensures { λ r. ⌜ Need (now (table .entry)) (now (driver .entry)) (now (delay .entry)) (now (limit .entry)) (now (cost .entry)) stages width g i l t r ⌝ }
+    requires { ⌜ ((T : StageTree) × Sized T (now table) (now driver) (now first) (now next) (now delay) (now limit) (now cost)
+        (now starts) (now ends) stages width g × (l < T .layers)) × (i < stages) × Near t ⌝ }
+    ensures { λ r. ⌜ Need (now (table .entry)) (now (driver .entry)) (now (first .entry)) (now (next .entry)) (now (delay .entry)) (now (limit .entry)) (now (cost .entry))
+        (now (starts .entry)) (now (ends .entry)) stages width g i l t r ⌝ }
 {
     let at = i * rules::MAX_LAYERS + l;
     let last = limit[at];
@@ -79,10 +84,10 @@ fn need_on(
         return width;
     }
     let mut need = (cost[at] / g) as usize;
-    let mut j = i + 1;
+    let mut j = first[i];
     while j < stages {
-        need += driven_need(table, driver, delay, width, i, l, t, j);
-        j += 1;
+        need += driven_need(table, delay, starts, ends, width, l, t, j);
+        j = next[j];
     }
     need
 }
@@ -91,9 +96,13 @@ fn need_on(
 fn layer_for(
     table: &[i64],
     driver: &[usize],
+    first: &[usize],
+    next: &[usize],
     delay: &[u64],
     limit: &[i64],
     cost: &[u64],
+    starts: &[usize],
+    ends: &[usize],
     stages: usize,
     layers: usize,
     width: usize,
@@ -101,13 +110,35 @@ fn layer_for(
     i: usize,
     t: i64,
 ) -> usize
-    requires { ⌜ ((T : StageTree) × Sized T (now table) (now driver) (now delay) (now limit) (now cost) stages width g × (layers ≡ T .layers)) × (i < stages) × Near t ⌝ }
-    ensures { λ r. ⌜ Layer (now (table .entry)) (now (driver .entry)) (now (delay .entry)) (now (limit .entry)) (now (cost .entry)) stages layers width g i t r ⌝ }
+    requires { ⌜ ((T : StageTree) × Sized T (now table) (now driver) (now first) (now next) (now delay) (now limit) (now cost)
+        (now starts) (now ends) stages width g × (layers ≡ T .layers)) × (i < stages) × Near t ⌝ }
+    ensures { λ r. ⌜ Layer (now (table .entry)) (now (driver .entry)) (now (first .entry)) (now (next .entry)) (now (delay .entry)) (now (limit .entry)) (now (cost .entry))
+        (now (starts .entry)) (now (ends .entry)) stages layers width g i t r ⌝ }
 {
-    let least = first_column(table, i * width, width, t);
+    let start = starts[i];
+    let end = ends[i];
+    let least = first_column(table, i * width, start, end, width, t);
     let mut l: usize = 0;
     while l + 1 < layers {
-        if need_on(table, driver, delay, limit, cost, stages, width, g, i, l, t) <= least {
+        if need_on(
+            table,
+            driver,
+            first,
+            next,
+            delay,
+            limit,
+            cost,
+            starts,
+            ends,
+            stages,
+            width,
+            g,
+            i,
+            l,
+            t,
+        )
+            <= least
+        {
             return l;
         }
         l += 1;
@@ -116,18 +147,25 @@ fn layer_for(
 }
 
 // Stage i on layer l passes its time on to the stages that it drives.
-fn push(driver: &[usize], delay: &[u64], times: &mut [i64], stages: usize, i: usize, l: usize)
-    requires { ⌜ PushIn (now driver) (now delay) (now times) stages i l ⌝ }
+fn push(
+    driver: &[usize],
+    first: &[usize],
+    next: &[usize],
+    delay: &[u64],
+    times: &mut [i64],
+    stages: usize,
+    i: usize,
+    l: usize,
+)
+    requires { ⌜ PushIn (now driver) (now first) (now next) (now delay) (now times) stages i l ⌝ }
     ensures { λ _. ⌜ Pushed (now (driver .entry)) (now (delay .entry)) (now (times .entry)) stages i l (now (times .exit)) ⌝ }
 {
     let t = times[i];
-    let mut j = i + 1;
-    while j < stages {
-        if driver[j] == i {
-            let reached = reached_at(delay, j, l, t);
-            times[j] = reached;
-        }
-        j += 1;
+    let mut to = first[i];
+    while to < stages {
+        let reached = reached_at(delay, to, l, t);
+        times[to] = reached;
+        to = next[to];
     }
 }
 
@@ -135,9 +173,13 @@ fn push(driver: &[usize], delay: &[u64], times: &mut [i64], stages: usize, i: us
 pub fn read_plan(
     table: &[i64],
     driver: &[usize],
+    first: &[usize],
+    next: &[usize],
     delay: &[u64],
     limit: &[i64],
     cost: &[u64],
+    starts: &[usize],
+    ends: &[usize],
     stages: usize,
     layers: usize,
     width: usize,
@@ -146,8 +188,8 @@ pub fn read_plan(
     times: &mut [i64],
     plan: &mut [u8],
 )
-    requires { ⌜ ReadIn (now table) (now driver) (now delay) (now limit) (now cost) stages layers width g arrival (now times) (now plan) ⌝ }
-    ensures { λ _. ⌜ PlanRead (now (table .entry)) (now (driver .entry)) (now (delay .entry)) (now (limit .entry)) (now (cost .entry))
+    requires { ⌜ ReadIn (now table) (now driver) (now first) (now next) (now delay) (now limit) (now cost) (now starts) (now ends) stages layers width g arrival (now times) (now plan) ⌝ }
+    ensures { λ _. ⌜ PlanRead (now (table .entry)) (now (driver .entry)) (now (first .entry)) (now (next .entry)) (now (delay .entry)) (now (limit .entry)) (now (cost .entry)) (now (starts .entry)) (now (ends .entry))
         stages layers width g arrival (now (plan .entry)) (now (plan .exit)) ⌝ }
 {
     times[0] = arrival;
@@ -157,9 +199,13 @@ pub fn read_plan(
         let l = layer_for(
             table,
             driver,
+            first,
+            next,
             delay,
             limit,
             cost,
+            starts,
+            ends,
             stages,
             layers,
             width,
@@ -168,7 +214,7 @@ pub fn read_plan(
             t,
         );
         plan[i] = l as u8;
-        push(driver, delay, times, stages, i, l);
+        push(driver, first, next, delay, times, stages, i, l);
         i += 1;
     }
 }

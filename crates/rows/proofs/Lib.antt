@@ -1,8 +1,4 @@
-pub mod Writing
-pub mod Duals
-pub mod Columns
-pub mod Driven
-pub mod Joins
 pub mod Meaning
+pub mod Layers
 pub mod Stages
 pub mod Tables

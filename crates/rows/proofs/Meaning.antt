@@ -1,28 +1,30 @@
 -- What the rows mean in the tree: the merged row of a layer stands for what the recursion asks on that layer besides the rounded cost, and the best of all
 -- layers for what it gives.
 use mathlib.Core.Path.{_≡_, refl, ap, sym, _∙_}
-use mathlib.Core.Bool.{Bool, true, false}
-use mathlib.Core.List.{List, [], _∷_, map, List·Memᴰ, List·Memᴰ·head}
-use mathlib.Core.Logic.{inl, inr}
-use Prim.Native.Nat.{ℕ, suc, _+_, _-_, _*_, _<_, min}
+use mathlib.Core.Bool.{true}
+use mathlib.Core.List.{List, [], _∷_, map}
+use Prim.Native.Nat.{ℕ, suc, _+_, _-_, _*_, _/_, _^_, _≤_, _<_, min}
 use native.Mathlib.Omega.{arith}
-use lib.Dec.{eqb}
+use lib.Dec.{eqb, leb}
 use lib.ListN.{getD}
 use lib.IntN.{ℤ, pos, _+ℤ_}
 use lib.Signed.{leZ}
-use borrow.Author.Tests.{leb-false}
+use borrow.Author.Tests.{le-leb}
 use Rattle.laws.specs.Basic.{from, sum, leastOf, lowest}
-use Rattle.laws.specs.Integers.{le-true, le-false, true-le, false-le, plus-view, pos-view}
-use Rattle.laws.specs.Lists.{Some, from-low, from-mem, map-same}
-use Rattle.oracle.specs.Stages.{StageTree, HasTerminal, drivenBy, drivesStage, arrive, driven-mem}
+use Rattle.laws.specs.Booleans.{and-both}
+use Rattle.laws.specs.Integers.{le-self, le-trans}
+use Rattle.laws.specs.Lists.{from-low, from-mem, map-same}
+use Rattle.oracle.specs.Stages.{StageTree, drivenBy, drivesStage, arrive, driven-mem}
 use Rattle.oracle.specs.Programme.{leastOn, least-is}
-use Rattle.oracle.specs.Timing.{late, lateCount, charge, leastAt}
-use Rattle.oracle.specs.Rows.{Dual, dual-sink, dual-sinks}
-use Rattle.laws.specs.Passing.{keep-same, sum-member, leastUpTo, leastUpTo-is}
-use Rattle.rows.specs.Entries.{rowAt, maxEntry, noLimit}
-use Rattle.rows.specs.Slices.{place}
-use Rattle.rows.specs.Contracts.{drivenAsk, Joined, FinishedFrom, DualFrom, Represents}
-use Rattle.rows.proofs.Duals.{dual-entries, dual-agree}
+use Rattle.oracle.specs.Timing.{lateCount, charge, leastAt}
+use Rattle.oracle.specs.Rows.{dual-sinks}
+use Rattle.oracle.specs.Band.{Band, LimitOn, band-agree}
+use Rattle.oracle.specs.Windows.{passes-on}
+use Rattle.laws.specs.Passing.{keep-same, leastUpTo, leastUpTo-is}
+use Rattle.bands.specs.Entries.{overDelay, noLimit}
+use Rattle.branches.specs.Slices.{place}
+use Rattle.branches.specs.Contracts.{UpTo, drivenAsk, Below, Joined}
+use Rattle.rows.specs.Contracts.{timeAt, askedIn, BandsFrom, Represents}
 
 -- What stage i on layer l asks at time t besides its rounded cost.
 abbrev pub besides : (T : StageTree) (k width i l : ℕ) → ℤ → ℕ
@@ -32,8 +34,15 @@ besides T k width i l t = suc (width - 1) * lateCount (T .limits i l) t + sum (m
 abbrev pub onLayer : (T : StageTree) (k width i : ℕ) → ℤ → ℕ → ℕ
 onLayer T k width i t l = leastOn T (charge T k (width - 1)) i l t
 
-module _ {T : StageTree} {k : ℕ} {lo : ℤ} {driver delay : List ℕ} {limit : List ℤ} {cost : List ℕ} {stages layers g : ℕ}
-    (S : Represents T k lo driver delay limit cost stages layers g) {i l : ℕ} (h : i < stages) (b : l < layers) where
+-- Within the window of stage i a time is no earlier than the first and no later than the last.
+pub asked-from : (early late : List ℤ) (i : ℕ) (t : ℤ) → askedIn early late i t ≡ true → leZ (timeAt early i) t ≡ true
+asked-from early late i t q = and-both (leZ (timeAt early i) t) (leZ t (timeAt late i)) q .0
+
+pub asked-to : (early late : List ℤ) (i : ℕ) → UpTo (timeAt late i) (askedIn early late i)
+asked-to early late i t q = and-both (leZ (timeAt early i) t) (leZ t (timeAt late i)) q .1
+
+module _ {T : StageTree} {k : ℕ} {early late : List ℤ} {driver delay : List ℕ} {limit : List ℤ} {cost : List ℕ} {stages layers g width : ℕ}
+    (S : Represents T k early late driver delay limit cost stages layers g width) {i l : ℕ} (h : i < stages) (b : l < layers) where
   in-tree : i < T .stages
   in-tree = omega (arith, S .stages-are)
 
@@ -51,78 +60,44 @@ module _ {T : StageTree} {k : ℕ} {lo : ℤ} {driver delay : List ℕ} {limit :
       (λ j m. let (u, v, e) = driven-mem T i j in-tree m in ap (λ d. f j (t +ℤ pos d)) (S .laid .delay-is j l (omega arith) v on-layer)))
       )
 
-  module _ {before after : List ℤ} {width row : ℕ} (positive : 0 < width) (finished : FinishedFrom before stages width (suc i))
-      (J : Joined before after driver delay limit stages width i l row) (D : DualFrom T k lo before width (suc i)) where
-    hi : ℕ
-    hi = width - 1
+  -- The stage's own limit stands for what its late sinks are charged.
+  pub own-limit : LimitOn (askedIn early late i) (width - 1) (getD limit (place i l) (pos 0)) (λ t. suc (width - 1) * lateCount (T .limits i l) t)
+  own-limit w c t q = go (T .limits i l) refl
+    where
+      go : (rs : List ℤ) → T .limits i l ≡ rs → leZ t (getD limit (place i l) (pos 0)) ≡ leb (suc (width - 1) * lateCount rs t) w
+      go (r ∷ rs) e = ap (leZ t) (S .laid .limit-is i l in-tree on-layer (rw e tt) ∙ ap leastOf e) ∙ dual-sinks t (width - 1) (r ∷ rs) tt w c t (le-self t)
+      go [] e = ap (leZ t) (S .laid .no-limit i l in-tree on-layer e) ∙ le-trans t (timeAt late i) noLimit (asked-to early late i t q) (S .under-limit i h)
+          ∙ sym (le-leb (suc (width - 1) * 0) w (omega arith))
 
-    ask : ℤ → ℕ
-    ask t = sum (map (λ j. leastAt T k hi j (arrive T j l t)) (drivenBy T i))
+  module _ {before after : List ℤ} {starts ends : List ℕ} {left : ℕ} {last : ℤ} {row start end over : ℕ} (paid : T .cost i l / 2 ^ k ≤ width - 1) (less : left ≤ width)
+      (e : last ≡ timeAt late i) (J : Joined before after driver delay limit starts ends stages width left i l last row start end over)
+      (D : BandsFrom T k early late before starts ends width (suc i)) where
+    below : Below (askedIn early late i) (askedIn early late) (leastAt T k (width - 1)) before driver delay starts ends stages width i l
+    below = record {
+      passes = λ j a c e t q.
+          let v : j < T .stages = omega (arith, S .stages-are) in
+          let d : getD delay (place j l) 0 ≡ T .delay j l = S .laid .delay-is j l (omega arith) v on-layer in
+          let s : T .driver j ≡ i = sym (S .laid .driver-is j (omega arith) v) ∙ e in
+          rw d (passes-on T k (width - 1) (timeAt early) (timeAt late) (S .windows) j l (omega arith) v on-layer (rw s paid) t (rw s q));
+      bands = λ j a c. D j a (omega (arith, S .stages-are));
+    }
 
-    rows : (j : ℕ) → i < j → j < stages → Dual lo hi (rowAt before (j * width)) (leastAt T k hi j)
-    unfolding hi
-    rows j a c = D j a (omega (arith, S .stages-are))
-
-    -- Past 2^62 no driven stage can be reached: its row has no such entry.
-    past : (j : ℕ) → List·Memᴰ j (drivenBy T i) → (t : ℤ) → leZ lo t ≡ true → leZ t noLimit ≡ false → hi < leastAt T k hi j (arrive T j l t)
-    unfolding hi
-    past j m t from-lo e =
-        let (u, v, q) = driven-mem T i j in-tree m in
-        let x : ℤ = t +ℤ pos (T .delay j l) in
-        let last : ℤ = rowAt before (j * width) hi in
-        let r = finished j u (omega (arith, S .stages-are)) hi (omega arith) in
-        let view = plus-view t (T .delay j l) in
-        let reached = true-le lo x (omega (arith, le-true lo t from-lo)) in
-        let none : leZ x last ≡ false = false-le x last (omega (arith, le-false t noLimit e, pos-view maxEntry, r .above)) in
-        leb-false (leastAt T k hi j x) hi (sym (D j u v hi (omega arith) x reached) ∙ none)
-
-    -- A stage with no sink of its own drives a stage.
-    unlimited : Some (drivenBy T i) → (t : ℤ) → leZ lo t ≡ true → min (suc hi * late noLimit t + ask t) (suc hi) ≡ min (suc hi * 0 + ask t) (suc hi)
-    unfolding ask
-    unlimited s t from-lo = go (leZ t noLimit) refl (drivenBy T i) refl s
-      where
-        go : (c : Bool) → leZ t noLimit ≡ c → (js : List ℕ) → drivenBy T i ≡ js → Some js
-            → min (suc hi * late noLimit t + ask t) (suc hi) ≡ min (suc hi * 0 + ask t) (suc hi)
-        go true e js q s = rw e
-        go false e [] q s = absurd s
-        go false e (j ∷ js) q s =
-            let m : List·Memᴰ j (drivenBy T i) = rw q (List·Memᴰ·head refl) in
-            let p = past j m t from-lo e in
-            let n = sum-member (λ j. leastAt T k hi j (arrive T j l t)) (drivenBy T i) m in
-            omega arith
-
-    -- The merged row stands for what the recursion asks on layer l besides the rounded cost.
-    pub joined-dual : Dual lo (width - 1) (rowAt after row) (besides T k width i l)
-    unfolding hi ask
-    joined-dual = go (T .limits i l) refl (S .tree .ends i l in-tree on-layer)
-      where
-        by-tree : (a : ℤ → ℕ) → Dual lo hi (rowAt after row) (λ t. a t + drivenAsk driver delay stages i l (leastAt T k hi) t)
-            → Dual lo hi (rowAt after row) (λ t. a t + ask t)
-        by-tree a = dual-agree lo hi (rowAt after row) (λ t. a t + drivenAsk driver delay stages i l (leastAt T k hi) t) (λ t. a t + ask t)
-            (λ t from-lo. ap (λ n. min (a t + n) (suc hi)) (ask-is (leastAt T k hi) t))
-
-        go : (rs : List ℤ) → T .limits i l ≡ rs → HasTerminal T i l → Dual lo hi (rowAt after row) (λ t. suc hi * lateCount rs t + ask t)
-        go (r ∷ rs) e s =
-            let own = S .laid .limit-is i l in-tree on-layer (rw e tt) ∙ ap leastOf e in
-            let sinks : ℤ → ℕ = λ t. suc hi * lateCount (r ∷ rs) t in
-            by-tree sinks (J .dual lo (leastAt T k hi) sinks rows
-            (dual-entries lo hi (λ w. leastOf (r ∷ rs)) (λ w. getD limit (place i l) (pos 0)) sinks (λ w c. own) (dual-sinks lo hi (r ∷ rs) tt)))
-        go [] e (inl s) = absurd (rw e at s)
-        go [] e (inr s) =
-            let own = S .laid .no-limit i l in-tree on-layer e in
-            let sinks : ℤ → ℕ = λ t. suc hi * late noLimit t in
-            dual-agree lo hi (rowAt after row) (λ t. sinks t + ask t) (λ t. suc hi * 0 + ask t) (unlimited s)
-            (by-tree sinks (J .dual lo (leastAt T k hi) sinks rows
-            (dual-entries lo hi (λ w. noLimit) (λ w. getD limit (place i l) (pos 0)) sinks (λ w c. own) (dual-sink lo hi noLimit))))
+    -- The merged band stands for what the recursion asks on layer l besides the rounded cost.
+    pub joined-band : Band (askedIn early late i) (left - 1) (overDelay after row over) start end (besides T k width i l)
+    joined-band = band-agree (askedIn early late i) (left - 1) (overDelay after row over) start end
+        (λ t. suc (width - 1) * lateCount (T .limits i l) t + drivenAsk driver delay stages i l (leastAt T k (width - 1)) t) (besides T k width i l)
+        (λ t q. ap (λ n. min (suc (width - 1) * lateCount (T .limits i l) t + n) (suc (left - 1))) (ask-is (leastAt T k (width - 1)) t))
+        (J .band (askedIn early late i) (askedIn early late) (leastAt T k (width - 1)) (λ t. suc (width - 1) * lateCount (T .limits i l) t) (rw e (asked-to early late i)) below
+        (λ w c. own-limit w (omega arith)))
 
 capped : {a b c : ℕ} (m : ℕ) → a ≡ min m c → b ≡ c → min a m ≡ min b m
 capped m p q = omega arith
 
 -- The best of all layers is what the recursion gives.
-pub all-layers : {T : StageTree} {k : ℕ} {lo : ℤ} {driver delay : List ℕ} {limit : List ℤ} {cost : List ℕ} {stages layers g : ℕ}
-    → Represents T k lo driver delay limit cost stages layers g → {i : ℕ} → i < stages → (width l : ℕ) → l ≡ layers → (t : ℤ)
+pub all-layers : {T : StageTree} {k : ℕ} {early late : List ℤ} {driver delay : List ℕ} {limit : List ℤ} {cost : List ℕ} {stages layers g width : ℕ}
+    → Represents T k early late driver delay limit cost stages layers g width → {i : ℕ} → i < stages → (l : ℕ) → l ≡ layers → (t : ℤ)
     → min (leastUpTo (suc (width - 1)) (onLayer T k width i t) l) (suc (width - 1)) ≡ min (leastAt T k (width - 1) i t) (suc (width - 1))
-all-layers {T} {k} S {i} h width l e t =
+all-layers {T} {k} {width = width} S {i} h l e t =
     let n : ℕ = T .layers - 1 in
     let f : T .layers ≡ suc n = omega (arith, S .tree .some-layer) in
     let last : l ≡ suc n = omega (arith, S .layers-are) in

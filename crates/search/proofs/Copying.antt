@@ -4,7 +4,7 @@ use mathlib.Core.List.{List, [], _∷_, _++_, append-assoc}
 use Prim.Native.Nat.{ℕ, suc, _+_, _≤_, _<_}
 use native.Mathlib.Omega.{arith}
 use lib.ListN.{length, getD, set, take, drop, length-set}
-use lib.Seq.{length-take-le, take-suc, drop-cons, set-at, append-snoc}
+use lib.Seq.{length-take-le, take-suc, drop-cons, set-at}
 
 -- The first n bytes are copied, the others are as before.
 pub record Copied (known before plan : List ℕ) (stages n : ℕ) : Type 0 where

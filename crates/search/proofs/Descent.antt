@@ -4,7 +4,7 @@ use mathlib.Core.Path.{_≡_, refl, sym, _∙_}
 use mathlib.Core.Bool.{true, false}
 use mathlib.Core.List.{List}
 use mathlib.Core.Logic.{_⊎_, inl, inr}
-use Prim.Native.Nat.{ℕ, suc, _+_, _-_, _*_, _/_, _^_, _≤_, _<_, min}
+use Prim.Native.Nat.{ℕ, suc, _+_, _-_, _*_, _/_, _^_, _≤_, _<_}
 use native.Mathlib.Omega.{arith}
 use native.Mathlib.Nat.{mul-le-mul-left, mul-le-mul-right, pow-le-pow-right, pow-suc}
 use lib.Dec.{leb, lit<}
@@ -19,9 +19,10 @@ use Rattle.oracle.specs.Stages.{StageTree, planCosts}
 use Rattle.oracle.specs.Rounding.{rounded-below}
 use Rattle.oracle.specs.Value.{planRounded, value, passes, exponent, MeetingPlan, first-meets, value-le, value-zero, value-exponent, exponent-is}
 use Rattle.rounding.specs.Contracts.{Costs, planIn, PlanIn}
-use Rattle.search.specs.Problem.{Numbers, Problem}
-use Rattle.search.specs.Contracts.{TestIn, Known, PlanAtIn, PlanAt, DescendIn, GrainFound}
-use Rattle.search.proofs.Grains.{costs-of}
+use Rattle.rounds.specs.Problem.{Numbers, Problem}
+use Rattle.rounds.specs.Contracts.{Known, PlanAtIn, PlanAt}
+use Rattle.search.specs.Contracts.{TestIn, DescendIn, GrainFound}
+use Rattle.rounds.proofs.Grains.{costs-of}
 
 -- For one tree: the grain is 2^k, and nothing from k up has qualified.
 pub record Above (T : StageTree) (p q k g : ℕ) : Type 0 where

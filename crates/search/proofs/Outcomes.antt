@@ -2,15 +2,16 @@
 use mathlib.Core.Path.{_≡_, refl}
 use mathlib.Core.Bool.{Bool, true, false}
 use mathlib.Core.List.{List, _++_}
-use Prim.Native.Nat.{ℕ, _+_, _/_, _≤_, _<_}
+use Prim.Native.Nat.{ℕ, _+_, _/_, _<_}
 use native.Mathlib.Omega.{arith}
 use lib.ListN.{length, drop, replicate}
 use lib.IntN.{ℤ, pos}
 use Rattle.oracle.specs.Stages.{StageTree}
 use Rattle.oracle.specs.Value.{value, exponent, MeetingPlan}
 use Rattle.rounding.specs.Contracts.{planIn}
-use Rattle.search.specs.Problem.{Numbers, Problem, problem-same}
-use Rattle.search.specs.Contracts.{Feasible, DescendIn, GrainFound}
+use Rattle.rounds.specs.Problem.{Numbers, problem-same}
+use Rattle.rounds.specs.Contracts.{Feasible}
+use Rattle.search.specs.Contracts.{DescendIn, GrainFound}
 use Rattle.search.specs.Planned.{PlanIn, IsLate, IsShort, IsFound}
 
 pub late : {T : StageTree} {p q stages : ℕ} {table : List ℤ} {plan known : List ℕ} {r : Bool} → Feasible T stages known r → r ≡ false

@@ -7,7 +7,7 @@ use lib.ListN.{length, drop, replicate}
 use lib.IntN.{ℤ, pos}
 use Rattle.oracle.specs.Stages.{StageTree}
 use Rattle.oracle.specs.Value.{value, exponent, firstPlan, MeetingPlan}
-use Rattle.search.specs.Problem.{Problem}
+use Rattle.rounds.specs.Problem.{Problem}
 use Rattle.search.specs.declared.Outcome.{Outcome}
 use Rattle.search.specs.declared.Outcome.the-variants.{Late, Short, Found}
 

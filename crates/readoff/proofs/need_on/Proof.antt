@@ -1,4 +1,4 @@
--- `need_on` is right: it adds the rounded cost and what the stages driven need, up to one more than the budgets; a late sink is above them all.
+-- `need_on` is right: it adds the rounded cost and what the stages driven need, up to one more than the budgets, and the links pass over none; a late sink is above them all.
 use borrow.Author.Needs.{needs}
 use mathlib.Core.Path.{_≡_}
 use native.Mathlib.Omega.{arith}
@@ -18,14 +18,14 @@ use Rattle.readoff.proofs.need_on.Lts as lts
 use Rattle.readoff.proofs.driven_need.Reads as driven-need-reads
 
 abbrev Inv-loop : tie.InvT-loop
-Inv-loop table driver delay limit cost stages width g i l t at last need₀ j₀ need j = Adding table driver delay limit cost stages width g i l (toZ w64 t) need j
+Inv-loop table driver first next delay limit cost starts ends stages width g i l t at last need₀ j₀ need j = Adding table driver first next delay limit cost starts ends stages width g i l (toZ w64 t) need j
 
 abbrev μ-loop : tie.MeasureT-loop
-μ-loop table driver delay limit cost stages width g i l t at last need₀ j₀ need j = stages - j
+μ-loop table driver first next delay limit cost starts ends stages width g i l t at last need₀ j₀ need j = stages - j
 
 -- the limit that is compared
 abbrev last : tie.After-last Inv-loop μ-loop → ℤ
-last c = getD (c .before .before .before .before .args .limit .now) (c .before .before .before .before .args .i * maxLayers + c .before .before .before .before .args .l) (pos 0)
+last c = let a = c .before .before .before .before .before .before .before .before .args in getD (a .limit .now) (a .i * maxLayers + a .l) (pos 0)
 
 last-is : (c : tie.After-last Inv-loop μ-loop) → toZ w64 (ofZ w64 (last c)) ≡ last c
 last-is c = toZ-ofZ (sfits-of (c .last .given))
@@ -44,7 +44,7 @@ shared-slice-copy-out-last c = search needs
 
 returns : tie.Need-returns Inv-loop μ-loop
 returns c =
-    let s = c .before .before .before .before .before in
+    let s = c .before .before .before .before .before .before .before .before .before in
     need-late (s .pre .1) (s .pre .2) (rw (last-is (c .before), toZ-ofZ (s .fits .t)) at (c .if1 .taken))
 
 mul-need : tie.Need-mul-need Inv-loop μ-loop
@@ -56,38 +56,46 @@ shared-slice-read-need c = search needs
 div-need : tie.Need-div-need Inv-loop μ-loop
 div-need c = search needs
 
-add-j : tie.Need-add-j Inv-loop μ-loop
-add-j c = search needs
+mul-j : tie.Need-mul-j Inv-loop μ-loop
+mul-j c = search needs
+
+shared-slice-read-j : tie.Need-shared-slice-read-j Inv-loop μ-loop
+shared-slice-read-j c = search needs
 
 loop-holds : tie.Need-loop-holds Inv-loop μ-loop
-loop-holds c = let p = c .before .before .before .before .before .before .pre in adding-start (p .0 .0) (p .0 .1) (p .0 .2) (p .1)
+loop-holds c = let p = c .before .before .before .before .before .before .before .before .before .before .before .pre in adding-start (p .0 .0) (p .0 .1) (p .0 .2) (p .1)
 
 driven-need-requires : tie.Need-driven-need-requires Inv-loop μ-loop
 driven-need-requires c κs =
-    let s = c .before .before .before .before .before .before .before .before in
+    let s = c .before .before .before .before .before .before .before .before .before .before .before .before .before in
     driven-in (s .pre .0 .0) (s .pre .0 .1) (s .pre .0 .2) (omega arith) (omega arith) (rw (toZ-ofZ (s .fits .t)) (s .pre .2))
 
 add-need : tie.Need-add-need Inv-loop μ-loop
 add-need c =
-    let s = c .before .before .before .before .before .before .before .before .before in
+    let s = c .before .before .before .before .before .before .before .before .before .before .before .before .before .before in
     record { fits = adding-fits (c .before .before .loop .inv) (omega arith) (c .driven-need .ensures) (s .pre .0 .1 .rows-long) (s .good .0 .1) }
 
-add-j-2 : tie.Need-add-j-2 Inv-loop μ-loop
-add-j-2 c = search needs
+mul-j-2 : tie.Need-mul-j-2 Inv-loop μ-loop
+mul-j-2 c = search needs
+
+shared-slice-read-j-2 : tie.Need-shared-slice-read-j-2 Inv-loop μ-loop
+shared-slice-read-j-2 c = search needs
 
 loop-less : tie.Need-loop-less Inv-loop μ-loop
-loop-less c = search needs
+loop-less c =
+    let links = c .before .before .before .before .before .before .before .before .before .before .before .before .before .before .before .pre .0 .1 .linked in
+    omega (arith, links .next-is (c .before .before .before .loop .j) (omega arith) (omega arith) .low)
 
 loop-again : tie.Need-loop-again Inv-loop μ-loop
 loop-again c =
-    let p = c .before .before .before .before .before .before .before .before .before .pre in
-    adding-more (c .before .before .loop .inv) (p .0 .1 .some-column) (omega arith) (c .driven-need .ensures)
+    let p = c .before .before .before .before .before .before .before .before .before .before .before .before .before .before .before .pre in
+    adding-more (c .before .before .before .loop .inv) (p .0 .1 .some-column) (p .0 .1 .linked) (omega arith) (c .before .driven-need .ensures)
 
 returns-2 : tie.Need-returns-2 Inv-loop μ-loop
 returns-2 c =
-    let s = c .before .before .before .before .before .before .before .before in
+    let s = c .before .before .before .before .before .before .before .before .before .before .before .before .before in
     adding-end (rw (toZ-ofZ (s .fits .t)) at (c .before .loop .inv)) (s .pre .0 .1 .some-column) (omega arith) (omega arith)
-    (rw (last-is (c .before .before .before .before), toZ-ofZ (s .fits .t)) at (c .before .before .before .if1 .left))
+    (rw (last-is (c .before .before .before .before .before), toZ-ofZ (s .fits .t)) at (c .before .before .before .before .if1 .left))
 
 pub need-on-spec : {M : Type 1} → statement M
 need-on-spec =
@@ -103,11 +111,13 @@ need-on-spec =
     mul-need
     shared-slice-read-need
     div-need
-    add-j
+    mul-j
+    shared-slice-read-j
     loop-holds
     driven-need-requires
     add-need
-    add-j-2
+    mul-j-2
+    shared-slice-read-j-2
     loop-less
     loop-again
     returns-2)

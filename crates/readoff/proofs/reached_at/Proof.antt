@@ -1,7 +1,7 @@
 -- `reached_at` is right: a time that is not far from 0 and a delay add up within 64 bits.
 use borrow.Author.Needs.{needs}
 use mir.Facts.{toZ-ofZ}
-use Rattle.readoff.proofs.Needs.{near-fits, near-sum}
+use Rattle.readoff.specs.NearTimes.{near-fits, near-sum}
 use Rattle.readoff.proofs.reached_at.Statement.{statement}
 use Rattle.readoff.proofs.reached_at.Tie as tie
 use Rattle.readoff.proofs.reached_at.Reads as reads

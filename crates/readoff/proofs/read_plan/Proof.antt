@@ -19,14 +19,14 @@ use Rattle.readoff.proofs.layer_for.Reads as layer-for-reads
 use Rattle.readoff.proofs.push.Reads as push-reads
 
 abbrev Inv-loop : tie.InvT-loop
-Inv-loop table driver delay limit cost stages layers width g arrival times₀ plan₀ i₀ times plan i =
-    Reading table driver delay limit cost stages layers width g (toZ w64 arrival) times₀ plan₀ times plan i
+Inv-loop table driver first next delay limit cost starts ends stages layers width g arrival times₀ plan₀ i₀ times plan i =
+    Reading table driver first next delay limit cost starts ends stages layers width g (toZ w64 arrival) times₀ plan₀ times plan i
 
 abbrev μ-loop : tie.MeasureT-loop
-μ-loop table driver delay limit cost stages layers width g arrival times₀ plan₀ i₀ times plan i = stages - i
+μ-loop table driver first next delay limit cost starts ends stages layers width g arrival times₀ plan₀ i₀ times plan i = stages - i
 
 -- the slice of times keeps its length
-long : (c : tie.At-loop Inv-loop μ-loop) → length (c .loop .times) ≡ length (c .before .before .before .before .before .args .times .now)
+long : (c : tie.At-loop Inv-loop μ-loop) → length (c .loop .times) ≡ length (c .before .before .before .before .before .before .before .before .before .args .times .now)
 long c = c .loop .inv .times-long ∙ simp length-set
 
 -- the time of the stage at hand
@@ -37,39 +37,39 @@ time-is : (c : tie.After-t Inv-loop μ-loop) → toZ w64 (ofZ w64 (time c)) ≡ 
 time-is c = toZ-ofZ (sfits-of (c .t .given))
 
 slice-set-from-arrival : tie.Need-slice-set-from-arrival Inv-loop μ-loop
-slice-set-from-arrival c = let p = c .before .before .before .before .pre in omega (arith, p .times-long, p .sized .stages-are, p .sized .tree .some-stage)
+slice-set-from-arrival c = let p = c .before .before .before .before .before .before .before .before .pre in omega (arith, p .times-long, p .sized .stages-are, p .sized .tree .some-stage)
 
 loop-holds : tie.Need-loop-holds Inv-loop μ-loop
 loop-holds c =
-    let s = c .before .before .before .before in
+    let s = c .before .before .before .before .before .before .before .before in
     reading-start (s .args .times .now) (s .pre .tree) (s .pre .sized) (s .pre .times-long)
 
 mul-t : tie.Need-mul-t Inv-loop μ-loop
-mul-t c = let p = c .before .before .before .before .before .before .pre in omega (arith, p .sized .stages-are, p .sized .laid .few-stages)
+mul-t c = let p = c .before .before .before .before .before .before .before .before .before .before .pre in omega (arith, p .sized .stages-are, p .sized .laid .few-stages)
 
 slice-copy-out-t : tie.Need-slice-copy-out-t Inv-loop μ-loop
-slice-copy-out-t c = omega (arith, long (c .before), c .before .before .before .before .before .before .pre .times-long)
+slice-copy-out-t c = omega (arith, long (c .before), c .before .before .before .before .before .before .before .before .before .before .pre .times-long)
 
 layer-for-requires : tie.Need-layer-for-requires Inv-loop μ-loop
 layer-for-requires c κs =
-    let p = c .before .before .before .before .before .before .before .pre in
+    let p = c .before .before .before .before .before .before .before .before .before .before .before .pre in
     let h = c .before .loop-test .taken in
-    let arrival = toZ-ofZ (c .before .before .before .before .before .before .before .fits .arrival) ∙ p .arrival-is in
+    let arrival = toZ-ofZ (c .before .before .before .before .before .before .before .before .before .before .before .fits .arrival) ∙ p .arrival-is in
     ((p .tree, p .sized, p .layers-are), h, rw (time-is c) (reading-near (c .before .before .loop .inv) h (p .tree) (p .sized) (p .layers-are) arrival))
 
 cast-plan : tie.Need-cast-plan Inv-loop μ-loop
 cast-plan c =
-    let p = c .before .before .before .before .before .before .before .before .pre in
+    let p = c .before .before .before .before .before .before .before .before .before .before .before .before .pre in
     record { fits = omega (arith, c .layer-for .ensures .most, p .sized .laid .few-layers, p .layers-are) }
 
 slice-write-plan : tie.Need-slice-write-plan Inv-loop μ-loop
-slice-write-plan c = omega (arith, c .before .before .before .loop .inv .plan-long, c .before .before .before .before .before .before .before .before .pre .plan-long)
+slice-write-plan c = omega (arith, c .before .before .before .loop .inv .plan-long, c .before .before .before .before .before .before .before .before .before .before .before .before .pre .plan-long)
 
 push-requires : tie.Need-push-requires Inv-loop μ-loop
 push-requires c κs =
-    let p = c .before .before .before .before .before .before .before .before .before .pre in
+    let p = c .before .before .before .before .before .before .before .before .before .before .before .before .before .pre in
     let h = c .before .before .before .loop-test .taken in
-    let arrival = toZ-ofZ (c .before .before .before .before .before .before .before .before .before .fits .arrival) ∙ p .arrival-is in
+    let arrival = toZ-ofZ (c .before .before .before .before .before .before .before .before .before .before .before .before .before .fits .arrival) ∙ p .arrival-is in
     push-in (c .before .before .before .before .loop .inv) h (p .tree) (p .sized) (p .layers-are) arrival (simp length-set (p .times-long)) (c .before .layer-for .ensures .most)
 
 add-i : tie.Need-add-i Inv-loop μ-loop
@@ -80,11 +80,11 @@ loop-less c = search needs
 
 loop-again : tie.Need-loop-again Inv-loop μ-loop
 loop-again c =
-    let p = c .before .before .before .before .before .before .before .before .before .before .before .pre in
+    let p = c .before .before .before .before .before .before .before .before .before .before .before .before .before .before .before .pre in
     let layer = rw (time-is (c .before .before .before .before)) at (c .before .before .before .layer-for .ensures) in
     let push = c .before .push in
     let h = c .before .before .before .before .before .loop-test .taken in
-    reading-more (c .before .before .before .before .before .before .loop .inv) h layer (push .ensures) (p .plan-long) (push .kept .1 .1 .0)
+    reading-more (c .before .before .before .before .before .before .loop .inv) h layer (push .ensures) (p .plan-long) (push .kept .1 .1 .1 .1 .0)
 
 same-length : tie.Need-same-length Inv-loop μ-loop
 same-length c = long (c .before)
@@ -93,7 +93,7 @@ same-length-2 : tie.Need-same-length-2 Inv-loop μ-loop
 same-length-2 c = omega (arith, c .before .loop .inv .plan-long)
 
 returns : tie.Need-returns Inv-loop μ-loop
-returns c = rw (toZ-ofZ (c .before .before .before .before .before .before .fits .arrival)) at (reading-end (c .before .loop .inv) (omega arith))
+returns c = rw (toZ-ofZ (c .before .before .before .before .before .before .before .before .before .before .fits .arrival)) at (reading-end (c .before .loop .inv) (omega arith))
 
 pub read-plan-spec : {M : Type 1} → statement M
 read-plan-spec =

@@ -1,0 +1,153 @@
+-- The plan at a grain, from the rows of the tree in which each stage's least rounded cost is taken off: V(k) is what was taken off and what the rows say
+-- is spent above it, and the plan that 01 chooses is the one read off them.
+use mathlib.Core.Path.{_≡_, refl, sym, _∙_}
+use mathlib.Core.List.{List}
+use Prim.Native.Nat.{ℕ, _+_, _-_, _*_, _^_, _≤_, _<_, min}
+use native.Mathlib.Omega.{arith}
+use native.Mathlib.Nat.{mul-le-mul-left, mul-le-mul-right}
+use lib.ListN.{length}
+use lib.IntN.{ℤ}
+use lib.Pow.{pow-pos}
+use Rattle.laws.specs.Sums.{sum-mono}
+use Rattle.laws.specs.Basic.{from}
+use Rattle.rules.specs.Tree.{on}
+use Rattle.oracle.specs.Stages.{StageTree, planCosts}
+use Rattle.oracle.specs.Rounding.{rounded-below}
+use Rattle.oracle.specs.Value.{planRounded, value, MeetingPlan, value-le}
+use Rattle.oracle.specs.Excess.{excess, excess-formed, excess-less, excess-plan, value-split, first-same}
+use Rattle.fanout.specs.Contracts.{Linked}
+use Rattle.readoff.specs.Contracts.{ReadIn, PlanRead}
+use Rattle.rounding.specs.Contracts.{Costs, planIn, Excess}
+use Rattle.rounds.specs.Problem.{Numbers}
+use Rattle.rounds.specs.Contracts.{RoundIn, Round, Known, PlanAt}
+use Rattle.rounds.proofs.Rounds.{round-value, read-in, read-first}
+
+module _ {driver delay : List ℕ} {limit : List ℤ} {cost : List ℕ} {stages layers : ℕ} {arrival : ℤ} where
+  -- What rounding asks of the slice of costs.
+  pub costs-of : {T : StageTree} → Numbers T driver delay limit cost stages layers arrival → Costs T cost stages layers
+  costs-of {T} N =
+      let L = N .laid in
+      record {
+        stages-are = N .stages-are;
+        layers-are = N .layers-are;
+        few-stages = omega (arith, N .stages-are, L .few-stages);
+        some-layer = omega (arith, N .layers-are, N .tree .some-layer);
+        few-layers = omega (arith, N .layers-are, L .few-layers);
+        long = omega (arith, N .stages-are, L .cost-long);
+        cost-at = λ i l a b. L .cost-at i l (omega (arith, N .stages-are)) (omega (arith, N .layers-are));
+        cost-most = λ i l a b.
+            let u : i < T .stages = omega (arith, N .stages-are) in
+            let v : l < T .layers = omega (arith, N .layers-are) in
+            rw (L .cost-at i l u v) (L .cost-most i l u v);
+      }
+
+  -- The slices with the costs that are left hold the numbers of the tree with these costs.
+  pub excess-numbers : {T : StageTree} {k base : ℕ} {slice : List ℕ} → Numbers T driver delay limit cost stages layers arrival
+      → Excess T k slice base → Numbers (excess T k) driver delay limit slice stages layers arrival
+  excess-numbers {T} {k} N X =
+      let L = N .laid in
+      record {
+        laid = record {
+          few-stages = L .few-stages;
+          few-layers = L .few-layers;
+          driver-long = L .driver-long;
+          delay-long = L .delay-long;
+          limit-long = L .limit-long;
+          cost-long = omega (arith, L .few-stages, X .long);
+          driver-at = L .driver-at;
+          delay-at = L .delay-at;
+          limit-at = L .limit-at;
+          cost-at = X .cost-at;
+          delays-to = L .delays-to;
+          delay-most = L .delay-most;
+          delays-most = L .delays-most;
+          limit-most = L .limit-most;
+          cost-most = λ i l a b. omega (arith, excess-less T k i l, L .cost-most i l a b);
+          arrival-most = L .arrival-most;
+        };
+        tree = excess-formed T k (N .tree);
+        stages-are = N .stages-are;
+        layers-are = N .layers-are;
+        arrival-is = N .arrival-is;
+        cheap = λ x.
+            omega (arith, sum-mono (λ i. excess T k .cost i (on x i)) (λ i. T .cost i (on x i)) (λ i. excess-less T k i (on x i)) (from 0 (T .stages)), N .cheap x);
+      }
+
+  -- The rounded cost of a known plan is small.
+  pub bound-small : {T : StageTree} {k bound : ℕ} {known : List ℕ} → Numbers T driver delay limit cost stages layers arrival → Known T k stages known bound
+      → bound < 2 ^ 28
+  bound-small {T} {k} {bound} {known} N K =
+      let x = planIn stages known in
+      let h = pow-pos k in
+      omega (arith, rounded-below (2 ^ k) (planCosts T x), N .cheap x, mul-le-mul-right (planRounded T k x) h, K .bound-is)
+
+  module _ {T : StageTree} {k bound base : ℕ} {known slice : List ℕ} (N : Numbers T driver delay limit cost stages layers arrival)
+      (K : Known T k stages known bound) (X : Excess T k slice base) where
+    pub left : Numbers (excess T k) driver delay limit slice stages layers arrival
+    left = excess-numbers N X
+
+    left-meets : MeetingPlan (excess T k) (planIn stages known)
+    left-meets = excess-plan T k (planIn stages known) (K .meets)
+
+    value-is : value T k ≡ base + value (excess T k) 0
+    value-is = omega (arith, value-split T k (planIn stages known) (K .meets), X .base-is)
+
+    within-bound : value T k ≤ bound
+    within-bound = omega (arith, value-le T k (planIn stages known) (K .meets), K .bound-is)
+
+    -- What is taken off already needs all columns.
+    pub none-left : {after : List ℕ} {columns : ℕ} → columns ≤ base → PlanAt T k columns stages after columns
+    none-left h = record { is = omega (arith, value-is); chosen = λ b. absurd (omega arith) }
+
+    -- What is taken off is within the bound.
+    pub base-within : base ≤ bound
+    base-within = omega (arith, value-is, within-bound)
+
+    -- m is where the columns end: past the bound, or at the table's end.
+    module _ {columns m : ℕ} (h : base < columns) (w : m ≡ min columns (bound + 1)) where
+      abbrev width : ℕ
+      width = m - base
+
+      pub some-width : 0 < width
+      some-width = omega (arith, value-is, within-bound)
+
+      module _ (table : List ℤ) (room : (stages + 2) * columns ≤ length table) where
+        room-left : (stages + 2) * width ≤ length table
+        room-left = let m : width ≤ columns = omega arith in omega (arith, room, mul-le-mul-left (stages + 2) m)
+
+        pub round-in : {starts ends : List ℕ} → length starts ≡ 64 → length ends ≡ 64 → RoundIn table driver delay limit slice starts ends stages layers arrival 1 width
+        round-in p q = record {
+          tree = excess T k;
+          numbers = left;
+          sized = room-left;
+          starts-long = omega (arith, N .stages-are, N .laid .few-stages);
+          ends-long = omega (arith, N .stages-are, N .laid .few-stages);
+          some-column = some-width;
+          some-grain = omega arith;
+        }
+
+        module _ {starts ends : List ℕ} {spent : ℕ} (R : Round (excess T k) 0 width table starts ends spent) where
+          spent-is : spent ≡ min (value (excess T k) 0) width
+          spent-is = round-value left some-width R (planIn stages known) left-meets
+
+          -- V(k) is past the columns.
+          pub all-spent : {after : List ℕ} → spent ≡ width → PlanAt T k columns stages after columns
+          all-spent e = record { is = omega (arith, value-is, within-bound, spent-is); chosen = λ b. absurd (omega arith) }
+
+          module _ (n : spent ≡ width → ⊥) where
+            fits : spent < width
+            fits = omega (arith, spent-is)
+
+            pub reading : {first next : List ℕ} {times : List ℤ} {plan : List ℕ} → Linked driver first next stages → length times ≡ 64 → stages ≤ length plan
+                → ReadIn table driver first next delay limit slice starts ends stages layers width 1 arrival times plan
+            reading L = read-in left R L refl fits room-left
+
+            pub plan-at : {first next before after : List ℕ} → Linked driver first next stages → PlanRead table driver first next delay limit slice starts ends stages layers width 1 arrival before after
+                → PlanAt T k columns stages after (base + spent)
+            plan-at L P = record {
+              is = omega (arith, value-is, spent-is);
+              chosen = λ b. sym (first-same T k (planIn stages known) (K .meets)) ∙ read-first left R L refl fits room-left (planIn stages known) left-meets P;
+            }
+
+            pub sum-small : base + spent ≤ bound
+            sum-small = omega (arith, value-is, within-bound, spent-is)

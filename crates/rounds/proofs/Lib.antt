@@ -1,0 +1,3 @@
+pub mod Preparing
+pub mod Rounds
+pub mod Grains
