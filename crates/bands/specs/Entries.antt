@@ -61,10 +61,6 @@ pub record InRange (low : ℕ) (z : ℤ) : Type 0 where
   pub above : up z ≤ maxEntry
   pub below : down z ≤ low
 
--- Every entry of a row does.
-abbrev pub RowIn : ℕ → List ℤ → ℕ → ℕ → Type 0
-RowIn low table off width = (w : ℕ) → w < width → InRange low (rowAt table off w)
-
 -- Every entry of the columns from `start` to before `end` does.
 abbrev pub BandIn : ℕ → List ℤ → (off start end : ℕ) → Type 0
 BandIn low table off start end = (w : ℕ) → start ≤ w → w < end → InRange low (rowAt table off w)

@@ -1,8 +1,9 @@
+-- `cut` is right: before the first column that meets the earliest time no time asked is met, and behind the first that meets the latest, or all that the last
+-- column does, none is met that was not.
 use Prim.Native.Nat.{_-_}
 use mir.Syntax.{w64}
 use mir.Val.{toZ, ofZ}
 use Rattle.bands.specs.Entries.{rowAt}
--- `cut` is right.
 use mathlib.Core.Path.{_≡_, refl, _∙_}
 use borrow.Author.Needs.{sfits-of}
 use mir.Facts.{toZ-ofZ}

@@ -1,4 +1,4 @@
--- `earlier` is right.
+-- `earlier` is right: its test is the one by which the lesser of two times is defined.
 use mathlib.Core.Path.{_≡_, refl, _∙_}
 use mathlib.Core.Bool.{true, false}
 use lib.Signed.{leZ}

@@ -1,4 +1,4 @@
--- `widen` is right.
+-- `widen` is right: only columns behind those that are filled are written, with NEVER, which meets no time.
 use Rattle.bands.proofs.Columns.{widen-none, widen-some}
 use borrow.Author.Needs.{needs}
 use Rattle.bands.proofs.widen.Statement.{statement}
