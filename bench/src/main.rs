@@ -11,6 +11,7 @@ mod host;
 mod measure;
 mod peer;
 mod report;
+mod stack;
 
 use families::{Case, Shape, Size, Times, LIMITS};
 use host::vorphiel as library;
@@ -42,6 +43,19 @@ fn growing() -> Vec<(&'static str, usize, Case, Call)> {
     rows
 }
 
+/// The jobs of which it is shown where the instructions go: judging and planning at 1/4.
+fn profiled(cases: &[Case], calls: &[Call]) -> Vec<(String, usize)> {
+    let job = |net: &str, call: Call| {
+        let case = cases.iter().position(|case| case.name == net).expect("a net of that name");
+        case * calls.len() + calls.iter().position(|&other| other == call).expect("a call that is measured")
+    };
+    let quarter = Call::Plan { p: 1, q: 4 };
+    vec![
+        (String::from("judge, free tree, tight"), job("free tree, tight", Call::Judge)),
+        (String::from("plan 1/4, few layers, loose"), job("few layers, loose", quarter)),
+    ]
+}
+
 fn main() {
     let (cases, growing, calls) = (families::at_the_limits(), growing(), calls());
     let at_limits = cases.iter().flat_map(|case| calls.iter().map(move |&call| Job::new(case, call)));
@@ -59,12 +73,15 @@ fn main() {
         println!("{} answers the same", jobs.len());
         return;
     }
-    let counted = measure::instructions(jobs.len());
+    let stacks: Vec<_> = jobs.iter_mut().take(cases.len() * calls.len()).map(stack::bytes).collect();
+    let counted = measure::instructions(jobs.len(), &profiled(&cases, &calls));
     let timed: Vec<_> = jobs.iter_mut().map(Job::times).collect();
     let measured: Vec<_> =
-        (0..jobs.len()).map(|job| (counted.as_ref().map(|counted| counted[job]), timed[job])).collect();
+        (0..jobs.len()).map(|job| (counted.as_ref().map(|counted| counted.0[job]), timed[job])).collect();
     let (limits, grown) = measured.split_at(cases.len() * calls.len());
     report::ratios(&cases, &calls, limits);
+    report::stacks(&calls, &stacks);
+    report::profiles(counted.map_or(vec![], |counted| counted.1));
     report::growth(&growing, grown);
     report::excess(&cases, &SHARES);
 }

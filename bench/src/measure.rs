@@ -3,6 +3,7 @@
 use crate::families::Case;
 use crate::library::{self, Counts, Judged, Planned, Refusal};
 use crate::peer;
+use std::collections::HashMap;
 use std::path::Path;
 use std::process::Command;
 use std::time::{Duration, Instant};
@@ -104,31 +105,74 @@ pub fn run_once(jobs: &mut [Job]) {
     }
 }
 
-/// The instructions of each job on each side: this program is run again under callgrind with `--once`, which calls
-/// `run_once` with the same jobs. None where there is no valgrind.
-pub fn instructions(jobs: usize) -> Option<Vec<[u64; 2]>> {
+/// Where the instructions of a call go: functions with those executed in their own code, the most first.
+pub type Profile = Vec<(String, u64)>;
+
+/// The instructions of each job on each side, and the profiles of the jobs asked for.
+pub type Counted = (Vec<[u64; 2]>, Vec<(String, [Profile; 2])>);
+
+/// What callgrind counts: this program is run again under it with `--once`, which calls `run_once` with the same jobs.
+/// None where there is no valgrind.
+pub fn instructions(jobs: usize, shown: &[(String, usize)]) -> Option<Counted> {
     let folder = std::env::temp_dir().join(format!("vorphiel-bench-{}", std::process::id()));
     std::fs::create_dir_all(&folder).expect("a folder for callgrind");
-    let counted = counted_in(&folder, jobs);
+    let dump = |number: usize| {
+        std::fs::read_to_string(folder.join(format!("callgrind.{number}"))).expect("a dump for each call")
+    };
+    let counted = called(&folder).map(|()| {
+        let totals = (0..jobs).map(|job| [2 * job + 1, 2 * job + 2].map(|number| total(&dump(number)))).collect();
+        let profile = |(name, job): &(String, usize)| {
+            (name.clone(), [2 * job + 1, 2 * job + 2].map(|number| profile(&dump(number))))
+        };
+        (totals, shown.iter().map(profile).collect())
+    });
     std::fs::remove_dir_all(&folder).expect("the folder removed");
     counted
 }
 
-fn counted_in(folder: &Path, jobs: usize) -> Option<Vec<[u64; 2]>> {
+fn called(folder: &Path) -> Option<()> {
     let own = std::env::current_exe().expect("the name of this program");
-    let out = folder.join("callgrind");
     let status = Command::new("valgrind")
         .args(["--quiet", "--tool=callgrind", "--zero-before=measured", "--dump-after=measured"])
-        .arg(format!("--callgrind-out-file={}", out.display()))
+        .arg(format!("--callgrind-out-file={}", folder.join("callgrind").display()))
         .arg(own)
         .arg("--once")
         .status()
         .ok()?;
     assert!(status.success(), "callgrind failed");
-    let total = |number: usize| {
-        let text = std::fs::read_to_string(format!("{}.{number}", out.display())).expect("a dump for each call");
-        let totals = text.lines().find_map(|line| line.strip_prefix("totals: ")).expect("a line of totals");
-        totals.trim().parse().expect("a number of instructions")
-    };
-    Some((0..jobs).map(|job| [total(2 * job + 1), total(2 * job + 2)]).collect())
+    Some(())
+}
+
+fn total(dump: &str) -> u64 {
+    let totals = dump.lines().find_map(|line| line.strip_prefix("totals: ")).expect("a line of totals");
+    totals.trim().parse().expect("a number of instructions")
+}
+
+/// A dump names functions once, as `fn=(7) name`, and by number after that. A line with a place and a number is the cost
+/// of the function named last, but not after `calls=`, where it is that of the function called.
+fn profile(dump: &str) -> Profile {
+    let (mut names, mut costs) = (HashMap::new(), HashMap::new());
+    let (mut function, mut of_call) = ("", false);
+    for line in dump.lines() {
+        if let Some((kind, rest)) = line.split_once("fn=(") {
+            let (number, name) = rest.split_once(')').expect("a number in brackets");
+            if !name.is_empty() {
+                names.insert(number, name.trim());
+            }
+            if kind.is_empty() {
+                function = number;
+            }
+        } else if line.starts_with("calls=") {
+            of_call = true;
+        } else if line.starts_with(|first: char| first.is_ascii_digit() || "+-*".contains(first)) {
+            let cost: u64 = line.split(' ').nth(1).map_or(0, |cost| cost.parse().expect("a number of instructions"));
+            *costs.entry(function).or_insert(0) += if of_call { 0 } else { cost };
+            of_call = false;
+        }
+    }
+    let name =
+        |number: &str| names.get(number).map_or(String::from("other"), |name| name.replace("vorphiel_bench::", ""));
+    let mut profile: Profile = costs.into_iter().map(|(number, cost)| (name(number), cost)).collect();
+    profile.sort_by_key(|(_, cost)| std::cmp::Reverse(*cost));
+    profile
 }

@@ -2,7 +2,7 @@
 
 use crate::families::Case;
 use crate::library::{self, Planned, Refusal};
-use crate::measure::Call;
+use crate::measure::{Call, Profile};
 use std::time::Duration;
 
 /// Instructions of library and peer, if they were counted, and their times.
@@ -72,6 +72,32 @@ fn mean(values: &[f64]) -> f64 {
 
 fn most(values: &[f64]) -> f64 {
     values.iter().copied().fold(0.0, f64::max)
+}
+
+/// The most stack that each call takes on the nets.
+pub fn stacks(calls: &[Call], bytes: &[usize]) {
+    println!("| call | bytes of stack, at most |");
+    println!("|---|---:|");
+    for (place, &call) in calls.iter().enumerate() {
+        let most = bytes.iter().skip(place).step_by(calls.len()).max().expect("a net");
+        println!("| {} | {most} |", name(call));
+    }
+    println!();
+}
+
+/// Where the instructions of some calls go: every function that executes at least a hundredth of them.
+pub fn profiles(shown: Vec<(String, [Profile; 2])>) {
+    for (call, sides) in shown {
+        println!("| {call} | function | instructions | share |");
+        println!("|---|---|---:|---:|");
+        for (side, profile) in ["library", "peer"].iter().zip(sides) {
+            let whole: u64 = profile.iter().map(|(_, cost)| cost).sum();
+            for (function, cost) in profile.iter().filter(|(_, cost)| 100 * cost >= whole) {
+                println!("| {side} | `{function}` | {cost} | {:.0} % |", 100.0 * *cost as f64 / whole as f64);
+            }
+        }
+        println!();
+    }
 }
 
 /// How the library's work grows.

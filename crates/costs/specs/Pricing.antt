@@ -1,6 +1,6 @@
--- The pass over the edges: before node j the table holds the costs of the edges before it; then the cost of a plan, stage by stage.
+-- The pass over the edges: before node j the table holds the costs of the edges before it; then the cost of a plan, edge by edge.
 use mathlib.Core.Path.{_≡_, refl, ap, sym, _∙_}
-use mathlib.Core.Bool.{Bool, true, false, _&&_, and-true}
+use mathlib.Core.Bool.{_&&_, and-true}
 use mathlib.Core.List.{List, map}
 use Prim.Native.Nat.{ℕ, zero, suc, _+_, _*_, _-_, _≤_, _<_}
 use native.Mathlib.Omega.{arith}
@@ -8,15 +8,14 @@ use lib.Dec.{eqb, ltb}
 use lib.ListN.{length, getD, replicate, length-replicate, getD-replicate}
 use borrow.Author.Tests.{lt-ltb}
 use Rattle.laws.specs.Basic.{if_then_else_, from, sum}
-use Rattle.laws.specs.Lists.{map-same, from-mem, length-from}
+use Rattle.laws.specs.Lists.{length-from}
 use Rattle.laws.specs.Sums.{sum-from, sum-most}
-use Rattle.rules.specs.Tree.{Net, stages, stageOf, layerCount, on}
-use Rattle.rules.specs.Bytes.{maxCost, number}
-use Rattle.rules.specs.Timing.{edgeCost, stageCost, stageCosts, cost}
+use Rattle.rules.specs.Tree.{Net, edges, stageOf, layerCount, on}
+use Rattle.rules.specs.Bytes.{maxCost}
+use Rattle.rules.specs.Timing.{edgeCost, cost}
 use Rattle.facts.specs.Accepted.{Accepted}
 use Rattle.facts.specs.Ranges.{edge-cost-in}
 use Rattle.facts.specs.Stages.{stage-below}
-use Rattle.facts.specs.Costs.{sum-costs, stage-cost-in, maxPlanCost}
 use Rattle.costs.specs.Priced.{Priced, costTo, cost-none, cost-more, cost-all, cost-low}
 use Rattle.costs.specs.Adding.{Adding, Room, partAdded}
 
@@ -42,20 +41,19 @@ pricing-end {n} A {costs} {j} P h = record {
   long = P .long;
 }
 
--- a turn: h is the head of node j, t its edge's stage
-module _ {n : Net} (A : Accepted n) {bs costs : List ℕ} {j h t layers : ℕ} (P : Pricing n costs j) (b : j ≤ length (n .nodes)) (el : layers ≡ layerCount n) (et : t ≡ stageOf n j)
-    (ends : h + 7 + 4 * layers ≤ length bs) (costs-are : (l : ℕ) → l < layers → edgeCost n l j ≡ number bs (h + 7 + 4 * l) 4) where
-  pub room : Room bs h t layers costs
+-- a turn: t is the stage of the edge to node j
+module _ {n : Net} (A : Accepted n) {costs : List ℕ} {j t layers : ℕ} (P : Pricing n costs j) (b : j ≤ length (n .nodes)) (el : layers ≡ layerCount n)
+    (et : t ≡ stageOf n j) where
+  pub room : Room n j t layers costs
   room = record {
     few = omega (arith, A .few-layers);
-    inside = ends;
     stage-in = omega (arith, stage-below A j (P .some) b, A .few-stages);
     long = P .long;
-    priced = λ l a. omega (arith, costs-are l a, edge-cost-in A l j);
+    priced = λ l a. edge-cost-in A l j;
     low = λ l a. omega (arith, P .each t l (omega (arith, stage-below A j (P .some) b, A .few-stages)) (omega arith), cost-low A l t (j - 1), A .few-nodes);
   }
 
-  pub pricing-more : {next : List ℕ} → Adding bs h t costs next layers → Pricing n next (j + 1)
+  pub pricing-more : {next : List ℕ} → Adding n j t costs next layers → Pricing n next (j + 1)
   unfolding partAdded
   pricing-more {next} D = record {
     some = omega arith;
@@ -64,56 +62,47 @@ module _ {n : Net} (A : Accepted n) {bs costs : List ℕ} {j h t layers : ℕ} (
     long = D .long ∙ P .long;
   }
     where
-      same : (s l : ℕ) → l < layerCount n → (if eqb t s && ltb l layers then number bs (h + 7 + 4 * l) 4 else 0) ≡ (if eqb (stageOf n j) s then edgeCost n l j else 0)
-      same s l c = rw (lt-ltb l layers (omega arith), and-true (eqb t s), costs-are l (omega arith), et)
+      same : (s l : ℕ) → l < layerCount n → (if eqb t s && ltb l layers then edgeCost n l j else 0) ≡ (if eqb (stageOf n j) s then edgeCost n l j else 0)
+      same s l c = rw (lt-ltb l layers (omega arith), and-true (eqb t s), et)
 
       back : (m : ℕ) → 1 ≤ m → (m - 1) + 1 ≡ m
       back m a = omega arith
 
-      step : (s l : ℕ) → s < 64 → l < layerCount n → getD costs (s * 16 + l) 0 + (if eqb t s && ltb l layers then number bs (h + 7 + 4 * l) 4 else 0) ≡ costTo n l s ((j - 1) + 1)
+      step : (s l : ℕ) → s < 64 → l < layerCount n → getD costs (s * 16 + l) 0 + (if eqb t s && ltb l layers then edgeCost n l j else 0)
+          ≡ costTo n l s ((j - 1) + 1)
       step s l a c =
           let e = cost-more n l s (j - 1) in
           let q = ap (λ (k : ℕ). (if eqb (stageOf n k) s then edgeCost n l k else 0)) (back j (P .some)) in
           omega (arith, P .each s l a c, same s l c)
 
--- what the stages before t cost under a plan, by the table
-unfoldable pub planSum : List ℕ → List ℕ → ℕ → ℕ
-planSum costs x t = sum (map (λ s. getD costs (s * 16 + on x s) 0) (from 0 t))
+-- what the edges up to m cost under plan x
+unfoldable pub planCostTo : Net → List ℕ → ℕ → ℕ
+planCostTo n x m = sum (map (λ j. edgeCost n (on x (stageOf n j)) j) (from 1 m))
 
-pub sum-start : (costs x : List ℕ) → planSum costs x 0 ≡ 0
-unfolding planSum
-sum-start costs x = refl
+pub plan-none : (n : Net) (x : List ℕ) → planCostTo n x 0 ≡ 0
+unfolding planCostTo
+plan-none n x = refl
 
-pub sum-next : (costs x : List ℕ) (t : ℕ) → planSum costs x (t + 1) ≡ planSum costs x t + getD costs (t * 16 + on x t) 0
-unfolding planSum
-sum-next costs x t =
-    let e : t + 1 ≡ suc t = omega arith in
-    let z : 0 + t ≡ t = omega arith in
-    ap (λ (k : ℕ). sum (map (λ s. getD costs (s * 16 + on x s) 0) (from 0 k))) e ∙
-    sum-from (λ s. getD costs (s * 16 + on x s) 0) 0 t ∙
-    ap (λ (k : ℕ). sum (map (λ s. getD costs (s * 16 + on x s) 0) (from 0 t)) + getD costs (k * 16 + on x k) 0) z
+pub plan-all : (n : Net) (x : List ℕ) → planCostTo n x (length (n .nodes)) ≡ cost n x
+unfolding planCostTo cost edges
+plan-all n x = refl
 
--- the layers of plan x are layers of the net
-abbrev pub Layered : Net → List ℕ → Type 0
-Layered n x = (t : ℕ) → t < stages n → on x t < layerCount n
+plan-next : (n : Net) (x : List ℕ) (m : ℕ) → planCostTo n x (suc m) ≡ planCostTo n x m + edgeCost n (on x (stageOf n (suc m))) (suc m)
+unfolding planCostTo
+plan-next n x m =
+    sum-from (λ j. edgeCost n (on x (stageOf n j)) j) 1 m ∙
+    ap (λ (k : ℕ). sum (map (λ j. edgeCost n (on x (stageOf n j)) j) (from 1 m)) + edgeCost n (on x (stageOf n k)) k) (omega arith)
 
-module _ {n : Net} (A : Accepted n) {costs : List ℕ} (P : Priced n costs) (x : List ℕ) (L : Layered n x) where
-  sum-is : (t : ℕ) → t ≤ stages n → planSum costs x t ≡ sum (map (λ s. stageCost n (on x s) s) (from 0 t))
-  unfolding planSum
-  sum-is t h =
-      ap sum (map-same (λ s. getD costs (s * 16 + on x s) 0) (λ s. stageCost n (on x s) s) (from 0 t)
-      (λ s m. let b : s < stages n = omega (arith, from-mem 0 t s m) in P .each s (on x s) b (L s b)))
+pub plan-more : (n : Net) (x : List ℕ) (j : ℕ) → 1 ≤ j → planCostTo n x j ≡ planCostTo n x (j - 1) + edgeCost n (on x (stageOf n j)) j
+plan-more n x zero h = absurd (omega arith)
+plan-more n x (suc m) h = let e : suc m - 1 ≡ m = omega arith in rw e (plan-next n x m)
 
-  sum-low : (t : ℕ) → t ≤ stages n → planSum costs x t ≤ t * maxPlanCost
-  sum-low t h =
-      omega (arith, sum-is t h, sum-most (λ s. stageCost n (on x s) s) maxPlanCost (λ s. stage-cost-in A (on x s) s) (from 0 t), ap (λ (k : ℕ). k * maxPlanCost) (length-from 0 t))
-
-  -- what a turn at stage t may rely on, l being its layer
-  pub turn-in : (t l : ℕ) → t < stages n → l ≡ on x t → (l < 16) × (t < 64) × (planSum costs x t + getD costs (t * 16 + l) 0 ≤ 65 * maxPlanCost)
-  turn-in t l h e =
-      let i = L t h in
-      (omega (arith, A .few-layers), omega (arith, A .few-stages), omega (arith, sum-low t (omega arith), A .few-stages, P .each t l h (omega arith), stage-cost-in A l t))
-
-  pub sum-all : planSum costs x (stages n) ≡ cost n x
-  unfolding stageCosts
-  sum-all = sum-is (stages n) (omega arith) ∙ sum-costs A x
+pub plan-low : {n : Net} → Accepted n → (x : List ℕ) (m : ℕ) → planCostTo n x m ≤ m * maxCost
+unfolding planCostTo
+plan-low {n} A x m =
+    omega (
+      arith,
+      sum-most (λ j. edgeCost n (on x (stageOf n j)) j) maxCost (λ j. edge-cost-in A (on x (stageOf n j)) j) (from 1 m),
+      ap (λ
+          (k : ℕ). k * maxCost) (length-from 1 m),
+    )

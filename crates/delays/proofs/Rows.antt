@@ -1,148 +1,136 @@
--- One turn of each loop over the layers: what it may rely on at layer l (its places in the tables, and bounds under which nothing overflows), and what it
+-- One turn of each loop over the columns: what it may rely on at column c (its places in the tables, and bounds under which nothing overflows), and what it
 -- leaves. The row's other entries and the other rows are as they were, so a turn reads what the loop began with.
-use mathlib.Core.Path.{_≡_, refl, ap, sym, _∙_}
+use mathlib.Core.Path.{_≡_, refl, ap, _∙_}
 use mathlib.Core.List.{List}
 use Prim.Native.Nat.{ℕ, _+_, _*_, _≤_, _<_}
 use native.Mathlib.Omega.{arith}
 use native.Mathlib.Nat.{mul-le-mul}
-use lib.ListN.{length, set}
+use lib.ListN.{length, getD, set}
 use mir.Syntax.{w64}
 use mir.Val.{Fits}
 use Rattle.rules.specs.declared.Kind.{Kind}
-use Rattle.rules.specs.Tree.{Layer, Net, layerCount}
-use Rattle.rules.specs.Bytes.{maxLayers, maxGateRes, number, layerAt}
+use Rattle.rules.specs.Tree.{Net, stages, stageOf, layerCount, on}
+use Rattle.rules.specs.Bytes.{maxGateRes, maxLayers}
 use Rattle.rules.specs.Timing.{layer}
 use Rattle.facts.specs.Ranges.{maxEdgeRes, maxEdgeCap}
 use Rattle.facts.specs.Loads.{maxLoad}
 use Rattle.facts.specs.Bounds.{maxEdgeDelay}
 use Rattle.facts.specs.Fits.{halfRange}
-use Rattle.tree.specs.Held.{Held, netOf, held-accepted}
-use Rattle.delays.specs.Payloads.{payloads}
-use Rattle.delays.specs.Tables.{entry, Row, RowIn, Filling, row-kept, next-kept, fill-more}
-use Rattle.delays.specs.Edges.{resOn, capOn, lowerOn, addedOn, edgeOn, EdgeIn}
-use Rattle.delays.specs.Delayed.{gateOn}
+use Rattle.facts.specs.Accepted.{Accepted}
+use Rattle.facts.specs.Stages.{stage-below}
+use Rattle.words.specs.Held.{Held, held-accepted}
+use Rattle.tree.specs.Staged.{Staged}
+use Rattle.tree.specs.declared.Gate.{Gate}
+use Rattle.tree.specs.declared.Gate.the-variants.{Root, Wire}
+use Rattle.delays.specs.Tables.{entry, Row, RowIn, Filling, row-before, place-in, row-kept, next-kept, fill-more}
+use Rattle.delays.specs.Columns.{Columns}
+use Rattle.delays.specs.Edges.{lowerOf, resOn, capOn, addedOn, edgeOn, EdgeIn}
+use Rattle.delays.specs.Delayed.{GateIn, startOf, delayOn}
 
--- Layer l of row i.
-pub record Place (table : List ℕ) (i l : ℕ) : Type 0 where
-  pub layer-in : l < maxLayers
-  pub node-in : i < 256
-  pub long : length table ≡ 4096
+-- There are no more columns than layers.
+pub columns-few : {words : List ℕ} {nodes layers : ℕ} (l w : ℕ) → Held words nodes layers → l + w ≤ layers → w ≤ maxLayers
+columns-few l w H h = omega (arith, held-accepted H .few-layers, H .layers-are)
 
-place : {old table : List ℕ} {i layers l : ℕ} → Row old i layers → length table ≡ length old → l < layers → Place table i l
-place R e h = record { layer-in = omega (arith, R .few); node-in = R .node-in; long = e ∙ R .long }
+-- Column c of row i.
+pub record Place (w : ℕ) (table : List ℕ) (i c : ℕ) : Type 0 where
+  pub inside : i * w + c < length table
+  pub small : i * w + c < 4096
+
+place : {w : ℕ} {old table : List ℕ} {i c : ℕ} → w ≤ maxLayers → Row w old i → length table ≡ length old → c < w → Place w table i c
+place {w} {i = i} {c = c} few R e h = record { inside = omega (arith, place-in R h); small = omega (arith, row-before w i 256 c h (R .node-in)) }
 
 -- Adding an edge to the load at its upper end.
-pub record LoadAdded (unit old table : List ℕ) (len : ℕ) (kind : Kind) (j parent layers l : ℕ) : Type 0 where
-  pub own : Place table parent l
-  pub lower : Place table j l
-  pub unit-long : length unit ≡ 32
-  pub cap-in : capOn unit len l ≤ maxEdgeCap
-  pub lower-in : lowerOn table kind j l ≤ maxLoad
-  pub own-in : entry table parent l ≤ maxLoad
-  pub onward : {x : ℕ} → x ≡ lowerOn table kind j l
-      → Filling old (set table (parent * maxLayers + l) (entry table parent l + (capOn unit len l + x))) parent layers (l + 1)
-      (λ l. entry old parent l + addedOn unit old len kind j l)
+pub record LoadAdded (n : Net) (w : ℕ) (old table : List ℕ) (len : ℕ) (kind : Kind) (l j parent c : ℕ) : Type 0 where
+  pub own : Place w table parent c
+  pub lower : Place w table j c
+  pub cap-in : capOn n len (l + c) ≤ maxEdgeCap
+  pub lower-in : lowerOf kind (entry w table j c) ≤ maxLoad
+  pub own-in : entry w table parent c ≤ maxLoad
+  pub onward : {x y : ℕ} → x ≡ layer n (l + c) .unitCap → y ≡ lowerOf kind (entry w table j c)
+      → Filling w old (set table (parent * w + c) (entry w table parent c + len * x + y)) parent (c + 1)
+      (λ k. entry w old parent k + addedOn n w old len kind l j k)
 
-pub load-added : {unit old table : List ℕ} {len : ℕ} {kind : Kind} {j parent layers l : ℕ} → EdgeIn unit old len kind j layers → RowIn old parent layers maxLoad
-    → parent < j → Filling old table parent layers l (λ l. entry old parent l + addedOn unit old len kind j l) → l < layers
-    → LoadAdded unit old table len kind j parent layers l
-load-added {unit} {old} {table} {len} {kind} {j} {parent} {layers} {l} E P less F h =
-    let few : l < maxLayers = omega (arith, E .row .few) in
-    let below : entry table j l ≡ entry old j l = row-kept (F .so-far) j l few (λ q. omega arith) in
-    let before : entry table parent l ≡ entry old parent l = next-kept (F .so-far) few in
+pub load-added : {n : Net} {w : ℕ} {old table : List ℕ} {len : ℕ} {kind : Kind} {l j parent c : ℕ} → w ≤ maxLayers → EdgeIn n w old len kind l j
+    → RowIn w old parent maxLoad → parent < j → Filling w old table parent c (λ k. entry w old parent k + addedOn n w old len kind l j k) → c < w
+    → LoadAdded n w old table len kind l j parent c
+load-added {n} {w} {old} {table} {len} {kind} {l} {j} {parent} {c} few E P less F h =
+    let below : entry w table j c ≡ entry w old j c = row-kept (F .so-far) j c h (λ q. omega arith) in
+    let before : entry w table parent c ≡ entry w old parent c = next-kept (F .so-far) h in
     record {
-      own = place (P .row) (F .so-far .long) h;
-      lower = place (E .row) (F .so-far .long) h;
-      unit-long = E .unit-long;
-      cap-in = E .cap-in l h;
-      lower-in = rw below (E .lower-in l h);
-      own-in = rw before (P .each l h);
-      onward = λ e. fill-more _ (P .row) F h (rw (e, below, before) refl);
+      own = place few (P .row) (F .so-far .long) h;
+      lower = place few (E .row) (F .so-far .long) h;
+      cap-in = E .cap-in c h;
+      lower-in = rw below (E .lower-in c h);
+      own-in = rw before (P .each c h);
+      onward = λ ex ey. fill-more _ (P .row) F h (rw (ex, ey, below, before) (omega arith));
     }
 
--- The gate delay into a row.
-pub record GateStarted (table old delay : List ℕ) (res intrinsic parent j layers l : ℕ) : Type 0 where
-  pub own : Place delay j l
-  pub upper : Place table parent l
-  pub gate-in : res * entry table parent l ≤ maxGateRes * maxLoad
-  pub onward : {x : ℕ} → x ≡ gateOn table res intrinsic parent l → Filling old (set delay (j * maxLayers + l) x) j layers (l + 1) (gateOn table res intrinsic parent)
+-- A start of an edge is no later than half the range of times.
+start-low : (gate : Gate) {load delay : ℕ} → GateIn gate → load ≤ maxLoad → (gate ≡ Wire → delay ≤ halfRange) → startOf gate load delay ≤ halfRange
+start-low (Root r d) {load} (a, b) c e = let p : r * load ≤ maxGateRes * maxLoad = mul-le-mul a c in omega arith
+start-low Wire g c e = e refl
 
-pub gate-started : {table old delay : List ℕ} {res intrinsic parent j layers l : ℕ} → res ≤ maxGateRes → RowIn table parent layers maxLoad → Row old j layers
-    → Filling old delay j layers l (gateOn table res intrinsic parent) → l < layers → GateStarted table old delay res intrinsic parent j layers l
-gate-started {l = l} a P R F h = record {
-  own = place R (F .so-far .long) h;
-  upper = place (P .row) refl h;
-  gate-in = mul-le-mul a (P .each l h);
-  onward = λ e. fill-more _ R F h e;
-}
+-- Setting the delay to a node.
+pub record DelaySet (n : Net) (w : ℕ) (table old delay : List ℕ) (gate : Gate) (len : ℕ) (kind : Kind) (l parent j c : ℕ) : Type 0 where
+  pub own : Place w delay j c
+  pub own-load : Place w table j c
+  pub upper : Place w delay parent c
+  pub upper-load : Place w table parent c
+  pub load-in : entry w table parent c ≤ maxLoad
+  pub res-in : resOn n len (l + c) ≤ maxEdgeRes
+  pub cap-in : capOn n len (l + c) ≤ maxEdgeCap
+  pub lower-in : lowerOf kind (entry w table j c) ≤ maxLoad
+  pub start-in : startOf gate (entry w table parent c) (entry w delay parent c) ≤ halfRange
+  pub edge-in : edgeOn n w table len kind l j c ≤ maxEdgeDelay
+  pub onward : {x : ℕ} → x ≡ startOf gate (entry w table parent c) (entry w delay parent c) + edgeOn n w table len kind l j c
+      → Filling w old (set delay (j * w + c) x) j (c + 1) (delayOn n w table old gate len kind l parent j)
 
--- The delay to another node into a row.
-pub record NodeStarted (old delay : List ℕ) (parent j layers l : ℕ) : Type 0 where
-  pub own : Place delay j l
-  pub upper : Place delay parent l
-  pub onward : Filling old (set delay (j * maxLayers + l) (entry delay parent l)) j layers (l + 1) (entry old parent)
-
-pub node-started : {old delay : List ℕ} {parent j layers l : ℕ} → Row old j layers → parent < j → Filling old delay j layers l (entry old parent) → l < layers
-    → NodeStarted old delay parent j layers l
-node-started {old} {delay} {parent} {j} {layers} {l} R less F h = record {
-  own = place R (F .so-far .long) h;
-  upper = record { layer-in = omega (arith, R .few); node-in = omega (arith, R .node-in); long = F .so-far .long ∙ R .long };
-  onward = fill-more _ R F h (row-kept (F .so-far) parent l (omega (arith, R .few)) (λ q. omega arith));
-}
-
--- Adding the edge delay to a row.
-pub record EdgeAdded (unit table old delay : List ℕ) (len : ℕ) (kind : Kind) (j layers l : ℕ) : Type 0 where
-  pub own : Place delay j l
-  pub lower : Place table j l
-  pub unit-long : length unit ≡ 32
-  pub res-in : resOn unit len l ≤ maxEdgeRes
-  pub cap-in : capOn unit len l ≤ maxEdgeCap
-  pub lower-in : lowerOn table kind j l ≤ maxLoad
-  pub own-in : entry delay j l ≤ halfRange
-  pub edge-in : {x y : ℕ} → y ≡ lowerOn table kind j l → x ≡ resOn unit len l * (capOn unit len l + 2 * y) → x ≤ maxEdgeDelay
-  pub onward : {x y : ℕ} → y ≡ lowerOn table kind j l → x ≡ resOn unit len l * (capOn unit len l + 2 * y)
-      → Filling old (set delay (j * maxLayers + l) (entry delay j l + x)) j layers (l + 1) (λ l. entry old j l + edgeOn unit table len kind j l)
-
-pub edge-added : {unit table old delay : List ℕ} {len : ℕ} {kind : Kind} {j layers l : ℕ} → EdgeIn unit table len kind j layers → RowIn old j layers halfRange
-    → Filling old delay j layers l (λ l. entry old j l + edgeOn unit table len kind j l) → l < layers → EdgeAdded unit table old delay len kind j layers l
-edge-added {unit} {table} {old} {delay} {len} {kind} {j} {layers} {l} E P F h =
-    let before : entry delay j l ≡ entry old j l = next-kept (F .so-far) (omega (arith, E .row .few)) in
-    let res = E .res-in l h in
-    let cap = E .cap-in l h in
-    let lower = E .lower-in l h in
-    let sum : capOn unit len l + 2 * lowerOn table kind j l ≤ maxEdgeCap + 2 * maxLoad = omega arith in
+pub delay-set : {n : Net} {w : ℕ} {table old delay : List ℕ} {gate : Gate} {len : ℕ} {kind : Kind} {l parent j c : ℕ} → w ≤ maxLayers → GateIn gate
+    → RowIn w table parent maxLoad → (gate ≡ Wire → RowIn w old parent halfRange) → parent < j → Row w old j → EdgeIn n w table len kind l j
+    → Filling w old delay j c (delayOn n w table old gate len kind l parent j) → c < w → DelaySet n w table old delay gate len kind l parent j c
+delay-set {n} {w} {table} {old} {delay} {gate} {len} {kind} {l} {parent} {j} {c} few G P U less R E F h =
+    let above : entry w delay parent c ≡ entry w old parent c = row-kept (F .so-far) parent c h (λ q. omega arith) in
+    let res = E .res-in c h in
+    let cap = E .cap-in c h in
+    let lower = E .lower-in c h in
+    let sum : capOn n len (l + c) + 2 * lowerOf kind (entry w table j c) ≤ maxEdgeCap + 2 * maxLoad = omega arith in
     record {
-      own = place (P .row) (F .so-far .long) h;
-      lower = place (E .row) refl h;
-      unit-long = E .unit-long;
+      own = place few R (F .so-far .long) h;
+      own-load = place few (E .row) refl h;
+      upper = place {old = old} few (record { node-in = omega (arith, R .node-in); long = R .long }) (F .so-far .long) h;
+      upper-load = place few (P .row) refl h;
+      load-in = P .each c h;
       res-in = res;
       cap-in = cap;
       lower-in = lower;
-      own-in = rw before (P .each l h);
-      edge-in = λ e q. rw (q, e) (mul-le-mul res sum);
-      onward = λ e q. fill-more _ (P .row) F h (rw (q, e, before) refl);
+      start-in = start-low gate G (P .each c h) (λ q. rw above (U q .each c h));
+      edge-in = mul-le-mul res sum;
+      onward = λ e. fill-more _ R F h (rw (e, above) refl);
     }
 
--- The product of an edge delay.
+-- The products of an edge delay and of a gate delay.
 pub edge-fits : {a b : ℕ} → a ≤ maxEdgeRes → b ≤ maxEdgeCap + 2 * maxLoad → Fits w64 (a * b)
 edge-fits {a} {b} h k = let p : a * b ≤ maxEdgeDelay = mul-le-mul h k in record { fits = omega arith }
 
--- Reading a layer.
-pub record LayerRead (bs : List ℕ) (n : Net) (l : ℕ) : Type 0 where
-  pub layer-in : l < maxLayers
-  pub ends : 3 + 4 * l + 4 ≤ length bs
-  pub res-is : number bs (3 + 4 * l) 2 ≡ layer n l .unitRes
-  pub cap-is : number bs (3 + 4 * l + 2) 2 ≡ layer n l .unitCap
+pub gate-fits : {r load : ℕ} → r ≤ maxGateRes → load ≤ maxLoad → r * load ≤ maxGateRes * maxLoad
+gate-fits h k = mul-le-mul h k
 
-pub layer-read : {bs heads : List ℕ} {nodes layers l : ℕ} → Held bs heads nodes layers → l < layers → LayerRead bs (netOf bs) l
-unfolding layerAt
-layer-read {bs} {l = l} H h =
-    let A = held-accepted H in
-    let P = payloads bs (H .holds) in
-    let b : l < layerCount (netOf bs) = omega (arith, H .layers-are) in
+-- The first layer of the stage of edge j, as code looks it up.
+pub record Staging (n : Net) (stage first : List ℕ) (w j : ℕ) : Type 0 where
+  pub node-in : j < length stage
+  pub stage-in : getD stage j 0 < length first
+  pub layer-is : {l : ℕ} → l ≡ getD first (getD stage j 0) 0 → l ≡ on first (stageOf n j)
+  pub layer-in : {l : ℕ} → l ≡ getD first (getD stage j 0) 0 → l + w ≤ layerCount n
+
+pub staging : {n : Net} → Accepted n → {stage below first : List ℕ} {w j : ℕ} → Staged n stage below → Columns n first w → 1 ≤ j → j ≤ length (n .nodes)
+    → Staging n stage first w j
+staging {n} A {stage} {below} {first} {w} {j} S C a b =
+    let e : getD stage j 0 ≡ stageOf n j = S .stage-is j a b in
+    let i : stageOf n j < stages n = stage-below A j a b in
+    let h : getD stage j 0 < stages n = omega arith in
     record {
-      layer-in = omega (arith, A .few-layers);
-      ends = omega (arith, P .driver-ends);
-      res-is = ap (λ (x : Layer). x .unitRes) (sym (P .layer-is l b));
-      cap-is = ap (λ (x : Layer). x .unitCap) (sym (P .layer-is l b));
+      node-in = omega (arith, S .stage-long, A .few-nodes);
+      stage-in = omega (arith, C .long);
+      layer-is = λ q. q ∙ ap (on first) e;
+      layer-in = λ q. omega (arith, C .inside (getD stage j 0) h);
     }

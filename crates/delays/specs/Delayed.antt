@@ -6,21 +6,26 @@ use mathlib.Core.Logic.{_⊎_, inl, inr}
 use mathlib.Core.List.{List}
 use Prim.Native.Nat.{ℕ, _+_, _*_, _≤_, _<_}
 use native.Mathlib.Omega.{arith}
-use lib.ListN.{length}
+use lib.ListN.{length, getD}
 use Rattle.laws.specs.Basic.{if_then_else_}
 use Rattle.laws.specs.Booleans.{same-or}
-use Rattle.rules.specs.Tree.{Net, at, isRoot, drives, stageOf, layerCount}
-use Rattle.rules.specs.Bytes.{maxLayers}
+use Rattle.rules.specs.declared.Kind.{Kind}
+use Rattle.rules.specs.Tree.{Net, at, isRoot, drives, stageOf, on}
+use Rattle.rules.specs.Bytes.{maxGateRes, maxIntrinsic}
 use Rattle.rules.specs.Timing.{load, edgeDelay, gateRes, gateIntrinsic, gateDelay, wireDelay}
 use Rattle.facts.specs.Accepted.{Accepted}
 use Rattle.facts.specs.Stages.{not-root, root-drives, stage-root, stage-up}
 use Rattle.facts.specs.Words.{wire-root, wire-up}
+use Rattle.facts.specs.Ranges.{gate-res-in, gate-intrinsic-in}
 use Rattle.facts.specs.Loads.{maxLoad, load-in}
 use Rattle.facts.specs.Fits.{halfRange, delay-fits}
-use Rattle.delays.specs.Tables.{entry, Row, RowIn, Filled, row-kept, fill-same}
-use Rattle.delays.specs.Edges.{Units, edgeOn, EdgeIn, LoadAt, edge-is, edge-in}
+use Rattle.tree.specs.declared.Gate.{Gate}
+use Rattle.tree.specs.declared.Gate.the-variants.{Root, Wire}
+use Rattle.tree.specs.Gates.{gateOf, root-gate, no-gate}
+use Rattle.tree.specs.Staged.{stageBelow, stage-is-below, below-is}
+use Rattle.delays.specs.Tables.{entry, Row, RowIn, Filled, row-kept}
+use Rattle.delays.specs.Edges.{edgeOn, EdgeIn, LoadAt, edge-is, edge-in}
 use Rattle.delays.specs.Loaded.{Loaded}
-use Rattle.delays.specs.Gates.{RootGate}
 
 -- The delay from the gate input of its stage to node j, on layer l.
 unfoldable pub delayTo : Net → ℕ → ℕ → ℕ
@@ -30,28 +35,47 @@ delayTo n l j = gateDelay n l (stageOf n j) + wireDelay n l j
 unfoldable pub startDelay : Net → ℕ → ℕ → ℕ
 startDelay n l i = if isRoot n i then gateDelay n l (drives n i) else delayTo n l i
 
--- Entry j * 16 + l is the delay to node j on layer l.
-pub record Delayed (n : Net) (delay : List ℕ) : Type 0 where
-  pub each : (j l : ℕ) → 1 ≤ j → j ≤ length (n .nodes) → l < layerCount n → entry delay j l ≡ delayTo n l j
-  pub long : length delay ≡ 4096
+-- Entry j * w + c is the delay to node j, on the layer that column c of the stage of edge j stands for.
+pub record Delayed (n : Net) (first : List ℕ) (w : ℕ) (delay : List ℕ) : Type 0 where
+  pub each : (j c : ℕ) → 1 ≤ j → j ≤ length (n .nodes) → c < w → entry w delay j c ≡ delayTo n (on first (stageOf n j) + c) j
+  pub long : 256 * w ≤ length delay
 
--- The gate delay of a gate with this load, and the delay to the upper end i of an edge, from the tables.
-abbrev pub gateOn : List ℕ → ℕ → ℕ → ℕ → ℕ → ℕ
-gateOn table res intrinsic i l = 2 * res * entry table i l + intrinsic
+-- Under a plan, with one column: entry j is the delay to node j.
+pub record PlanDelays (n : Net) (plan delay : List ℕ) : Type 0 where
+  pub each : (j : ℕ) → 1 ≤ j → j ≤ length (n .nodes) → getD delay j 0 ≡ delayTo n (on plan (stageOf n j)) j
+  pub long : 256 ≤ length delay
 
-unfoldable pub startOn : Net → List ℕ → List ℕ → ℕ → ℕ → ℕ
-startOn n table delay i l = if isRoot n i then gateOn table (gateRes n i) (gateIntrinsic n i) i l else entry delay i l
+pub plan-delays : {n : Net} {plan delay : List ℕ} → Delayed n plan 1 delay → PlanDelays n plan delay
+plan-delays {n} {plan} {delay} D = record { each = λ j a b. here j a b; long = D .long }
+  where
+    here : (j : ℕ) → 1 ≤ j → j ≤ length (n .nodes) → getD delay j 0 ≡ delayTo n (on plan (stageOf n j)) j
+    here j a b =
+        let p : j * 1 + 0 ≡ j = omega arith in
+        let q : on plan (stageOf n j) + 0 ≡ on plan (stageOf n j) = omega arith in
+        rw (p, q) at (D .each j 0 a b (omega arith))
 
--- A row that a gate or the wire above filled holds the delay to the upper end.
-pub start-gate : {n : Net} (table : List ℕ) {old delay : List ℕ} {i j layers r d : ℕ} → RootGate n i r d → Filled old delay j layers (gateOn table r d i)
-    → Filled old delay j layers (startOn n table old i)
-unfolding startOn
-start-gate table G F = fill-same F (λ l h. rw (G .is-root, G .res-is, G .intrinsic-is) refl)
+-- On every layer, with a column for each: entry j * w + l is the delay to node j on layer l, w being the number of layers.
+pub record LayerDelays (n : Net) (w : ℕ) (delay : List ℕ) : Type 0 where
+  pub each : (j l : ℕ) → 1 ≤ j → j ≤ length (n .nodes) → l < w → entry w delay j l ≡ delayTo n l j
+  pub long : 256 * w ≤ length delay
 
-pub start-wire : (n : Net) (table : List ℕ) {old delay : List ℕ} {j layers : ℕ} (i : ℕ) → isRoot n i ≡ false → Filled old delay j layers (entry old i)
-    → Filled old delay j layers (startOn n table old i)
-unfolding startOn
-start-wire n table i e F = fill-same F (λ l h. rw e refl)
+pub layer-delays : {n : Net} {first : List ℕ} {w : ℕ} {delay : List ℕ} → ((t : ℕ) → on first t ≡ 0) → Delayed n first w delay → LayerDelays n w delay
+layer-delays {n} {first} {w} {delay} zeros D = record { each = λ j l a b h. here j l a b h; long = D .long }
+  where
+    here : (j l : ℕ) → 1 ≤ j → j ≤ length (n .nodes) → l < w → entry w delay j l ≡ delayTo n l j
+    here j l a b h = let q : on first (stageOf n j) + l ≡ l = omega (arith, zeros (stageOf n j)) in rw q at (D .each j l a b h)
+
+-- The delay to the upper end of an edge, by what drives it: a gate with this load, or the wire above, to whose lower end the delay is this.
+abbrev pub startOf : Gate → ℕ → ℕ → ℕ
+startOf gate load delay = elim gate [ Root r d ↦ 2 * r * load + d | Wire ↦ delay ]
+
+-- A gate with numbers in their ranges.
+abbrev pub GateIn : Gate → Type 0
+GateIn gate = elim gate [ Root r d ↦ (r ≤ maxGateRes) × (d ≤ maxIntrinsic) | Wire ↦ Unit {0} ]
+
+-- The delay to node j in column c, from the tables: i is its parent.
+abbrev pub delayOn : Net → ℕ → List ℕ → List ℕ → Gate → ℕ → Kind → ℕ → ℕ → ℕ → ℕ → ℕ
+delayOn n w table delay gate len kind l i j c = startOf gate (entry w table i c) (entry w delay i c) + edgeOn n w table len kind l j c
 
 module _ {n : Net} (A : Accepted n) where
   -- The delay to a node is the delay to the upper end of its edge and the edge delay.
@@ -63,7 +87,8 @@ module _ {n : Net} (A : Accepted n) where
       p = at n j .parent
 
       go : (b : Bool) → isRoot n p ≡ b
-          → gateDelay n l (stageOf n j) + wireDelay n l j ≡ (if b then gateDelay n l (drives n p) else gateDelay n l (stageOf n p) + wireDelay n l p) + edgeDelay n l j
+          → gateDelay n l (stageOf n j) + wireDelay n l j ≡ (if b then gateDelay n l (drives n p) else gateDelay n l
+          (stageOf n p) + wireDelay n l p) + edgeDelay n l j
       go true e = omega (arith, ap (gateDelay n l) (stage-root A j h e), wire-root A l j h e)
       go false e = omega (arith, ap (gateDelay n l) (stage-up A j h e), wire-up A l j h e)
 
@@ -77,86 +102,103 @@ module _ {n : Net} (A : Accepted n) where
   gate-is l i h e = rw (root-drives n i h e) refl
 
 -- The pass before node j.
-pub record Delaying (n : Net) (delay : List ℕ) (j : ℕ) : Type 0 where
+pub record Delaying (n : Net) (first : List ℕ) (w : ℕ) (delay : List ℕ) (j : ℕ) : Type 0 where
   pub some : 1 ≤ j
   pub inside : j ≤ length (n .nodes) + 1
-  pub each : (i l : ℕ) → 1 ≤ i → i < j → l < layerCount n → entry delay i l ≡ delayTo n l i
-  pub long : length delay ≡ 4096
+  pub each : (i c : ℕ) → 1 ≤ i → i < j → c < w → entry w delay i c ≡ delayTo n (on first (stageOf n i) + c) i
+  pub long : 256 * w ≤ length delay
 
-pub delaying-start : (n : Net) {delay : List ℕ} → length delay ≡ 4096 → Delaying n delay 1
-delaying-start n e = record { some = omega arith; inside = omega arith; each = λ i l a b c. absurd (omega arith); long = e }
+pub delaying-start : (n : Net) (first : List ℕ) {w : ℕ} {delay : List ℕ} → 256 * w ≤ length delay → Delaying n first w delay 1
+delaying-start n first e = record { some = omega arith; inside = omega arith; each = λ i c a b d. absurd (omega arith); long = e }
 
-pub delaying-end : {n : Net} {delay : List ℕ} {j : ℕ} → Delaying n delay j → length (n .nodes) < j → Delayed n delay
-delaying-end D h = record { each = λ j l a b c. D .each j l a (omega arith) c; long = D .long }
+pub delaying-end : {n : Net} {first : List ℕ} {w : ℕ} {delay : List ℕ} {j : ℕ} → Delaying n first w delay j → length (n .nodes) < j → Delayed n first w delay
+delaying-end D h = record { each = λ j c a b d. D .each j c a (omega arith) d; long = D .long }
 
--- What a turn at node j may rely on, and what it leaves.
-pub record DelayTurn (n : Net) (unit table delay : List ℕ) (layers j : ℕ) : Type 0 where
+-- What a turn at node j may rely on, l being the first layer of its stage and `gate` what drives the wire below its parent, and what it leaves.
+pub record DelayTurn (n : Net) (first : List ℕ) (w : ℕ) (table delay : List ℕ) (gate : Gate) (l j : ℕ) : Type 0 where
   pub parent-lower : at n j .parent < j
-  pub parent-row : RowIn table (at n j .parent) layers maxLoad
-  pub own-row : Row delay j layers
-  pub edge : EdgeIn unit table (at n j .len) (at n j .kind) j layers
-  pub started : {delay′ : List ℕ} → Filled delay delay′ j layers (startOn n table delay (at n j .parent)) → RowIn delay′ j layers halfRange
-  pub onward : {delay′ delay″ : List ℕ} → Filled delay delay′ j layers (startOn n table delay (at n j .parent))
-      → Filled delay′ delay″ j layers (λ l. entry delay′ j l + edgeOn unit table (at n j .len) (at n j .kind) j l) → Delaying n delay″ (j + 1)
+  pub gate-in : GateIn gate
+  pub parent-row : RowIn w table (at n j .parent) maxLoad
+  pub upper-row : gate ≡ Wire → RowIn w delay (at n j .parent) halfRange
+  pub own-row : Row w delay j
+  pub edge : EdgeIn n w table (at n j .len) (at n j .kind) l j
+  pub onward : {delay′ : List ℕ} → Filled w delay delay′ j w (delayOn n w table delay gate (at n j .len) (at n j .kind) l (at n j .parent) j)
+      → Delaying n first w delay′ (j + 1)
 
-module _ {n : Net} (A : Accepted n) where
-  -- Where the tables hold the loads and the delays to the nodes before j, they give the delay to the upper end of an edge.
-  start-is : {table delay : List ℕ} {j : ℕ} → Loaded n table → Delaying n delay j → (i l : ℕ) → i ≤ length (n .nodes) → i < j → l < layerCount n
-      → startOn n table delay i l ≡ startDelay n l i
-  unfolding startOn startDelay
-  start-is {table} {delay} T D i l a b h = go (isRoot n i) refl
+module _ {n : Net} (A : Accepted n) {first : List ℕ} {w : ℕ} {table delay : List ℕ} {gate : Gate} {l j : ℕ}
+    (T : Loaded n first w table) (D : Delaying n first w delay j) (h : j ≤ length (n .nodes)) (e : l ≡ on first (stageOf n j)) (g : gate ≡ gateOf n
+    (at n j .parent)) where
+  abbrev p : ℕ
+  p = at n j .parent
+
+  lower : p < j
+  lower = A .parent-lower j (D .some)
+
+  own : Row w delay j
+  own = record { node-in = omega (arith, A .few-nodes); long = D .long }
+
+  below : LoadAt n w table l j
+  below = record {
+    is = λ s c b.
+        let q : on first (stageBelow n j) ≡ l = ap (on first) (below-is A j (D .some) ∙ rw s refl) ∙ sym e in
+        rw (← q) (T .each j c h b);
+  }
+
+  -- The load at the parent and the delay to it, on the layers of the edge's stage.
+  load-is : (c : ℕ) → c < w → entry w table p c ≡ load n (l + c) p
+  load-is c b =
+      let q : on first (stageBelow n p) ≡ l = sym (e ∙ ap (on first) (stage-is-below A j (D .some))) in
+      rw q at (T .each p c (omega (arith, lower)) b)
+
+  wire-is : isRoot n p ≡ false → (c : ℕ) → c < w → entry w delay p c ≡ delayTo n (l + c) p
+  wire-is r c b =
+      let q : on first (stageOf n p) ≡ l = sym (e ∙ ap (on first) (stage-up A j (D .some) r)) in
+      rw q at (D .each p c (not-root A p r .0) lower b)
+
+  start-is : (c : ℕ) → c < w → startOf gate (entry w table p c) (entry w delay p c) ≡ startDelay n (l + c) p
+  unfolding startDelay
+  start-is c b = go gate g
     where
-      go : (r : Bool) → isRoot n i ≡ r
-          → (if r then gateOn table (gateRes n i) (gateIntrinsic n i) i l else entry delay i l) ≡ (if r then gateDelay n l (drives n i) else delayTo n l i)
-      go true q = rw (T .each i l a h) (sym (gate-is A l i a q))
-      go false q = D .each i l (not-root A i q .0) b h
+      go : (x : Gate) → x ≡ gateOf n p → startOf x (entry w table p c) (entry w delay p c) ≡ (if isRoot n p then gateDelay n (l + c)
+          (drives n p) else delayTo n (l + c) p)
+      go (Root r d) q =
+          let R = root-gate n p q in
+          rw (R .is-root, R .res-is, R .intrinsic-is, load-is c b) (sym (gate-is A (l + c) p (omega (arith, lower)) (R .is-root)))
+      go Wire q = let r = no-gate n p q in rw r (wire-is r c b)
 
-  pub delay-turn : {unit table delay : List ℕ} {layers j : ℕ} → layers ≡ layerCount n → Units n unit layers → Loaded n table → Delaying n delay j
-      → j ≤ length (n .nodes) → DelayTurn n unit table delay layers j
-  delay-turn {unit} {table} {delay} {layers} {j} e U T D h = record {
+  gate-fine : GateIn gate
+  gate-fine = go gate g
+    where
+      go : (x : Gate) → x ≡ gateOf n p → GateIn x
+      go (Root r d) q = let R = root-gate n p q in rw (R .res-is, R .intrinsic-is) (gate-res-in A p, gate-intrinsic-in A p)
+      go Wire q = tt
+
+  is-wire : gate ≡ Wire → isRoot n p ≡ false
+  is-wire q = no-gate n p (sym q ∙ g)
+
+  pub delay-turn : DelayTurn n first w table delay gate l j
+  delay-turn = record {
     parent-lower = lower;
+    gate-in = gate-fine;
     parent-row = record {
-      row = record { few = few; node-in = omega (arith, lower, A .few-nodes); long = T .long };
-      each = λ l b. rw (T .each p l (omega (arith, lower)) (omega arith)) (load-in A l p);
+      row = record { node-in = omega (arith, lower, A .few-nodes); long = T .long };
+      each = λ c b. rw (load-is c b) (load-in A (l + c) p);
+    };
+    upper-row = λ q. record {
+      row = record { node-in = omega (arith, lower, A .few-nodes); long = D .long };
+      each = λ c b. omega (arith, wire-is (is-wire q) c b, delay-below A (l + c) p (not-root A p (is-wire q) .0) (omega (arith, lower)));
     };
     own-row = own;
-    edge = edge-in U below A (record { few = few; node-in = own .node-in; long = T .long });
-    started = λ F. record {
-      row = record { few = few; node-in = own .node-in; long = F .long ∙ D .long };
-      each = λ l b. omega (arith, F .filled l b, start l b, delay-is A l j (D .some), delay-below A l j (D .some) h);
-    };
-    onward = λ F G. record {
+    edge = edge-in below A (record { node-in = own .node-in; long = T .long });
+    onward = λ F. record {
       some = omega arith;
       inside = omega arith;
-      each = λ i l a b c. go F G i l a b c (same-or j i);
-      long = G .long ∙ (F .long ∙ D .long);
+      each = λ i c a b d. go F i c a b d (same-or j i);
+      long = omega (arith, F .long, D .long);
     };
   }
     where
-      p : ℕ
-      p = at n j .parent
-
-      lower : p < j
-      lower = A .parent-lower j (D .some)
-
-      few : layers ≤ maxLayers
-      few = omega (arith, A .few-layers)
-
-      own : Row delay j layers
-      own = record { few = few; node-in = omega (arith, A .few-nodes); long = D .long }
-
-      below : LoadAt n table j layers
-      below = record { is = λ l b. T .each j l h (omega arith) }
-
-      start : (l : ℕ) → l < layers → startOn n table delay p l ≡ startDelay n l p
-      start l b = start-is T D p l (omega (arith, lower)) lower (omega arith)
-
-      go : {delay′ delay″ : List ℕ} → Filled delay delay′ j layers (startOn n table delay p)
-          → Filled delay′ delay″ j layers (λ l. entry delay′ j l + edgeOn unit table (at n j .len) (at n j .kind) j l)
-          → (i l : ℕ) → 1 ≤ i → i < j + 1 → l < layerCount n → (i ≡ j) ⊎ (i ≡ j → ⊥) → entry delay″ i l ≡ delayTo n l i
-      go F G i l a b c (inl q) =
-          let d : l < layers = omega arith in
-          rw q (G .filled l d ∙ rw (F .filled l d, start l d, edge-is U below l d) (sym (delay-is A l j (D .some))))
-      go F G i l a b c (inr ne) =
-          let d : l < maxLayers = omega (arith, A .few-layers) in
-          row-kept G i l d ne ∙ (row-kept F i l d ne ∙ D .each i l a (omega arith) c)
+      go : {delay′ : List ℕ} → Filled w delay delay′ j w (delayOn n w table delay gate (at n j .len) (at n j .kind) l p j)
+          → (i c : ℕ) → 1 ≤ i → i < j + 1 → c < w → (i ≡ j) ⊎ (i ≡ j → ⊥) → entry w delay′ i c ≡ delayTo n (on first (stageOf n i) + c) i
+      go F i c a b d (inl q) = rw (q, ← e) (F .filled c d ∙ rw (start-is c d, edge-is below c d) (sym (delay-is A (l + c) j (D .some))))
+      go F i c a b d (inr ne) = row-kept F i c d ne ∙ D .each i c a (omega arith) d

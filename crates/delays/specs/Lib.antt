@@ -1,6 +1,5 @@
-pub mod Payloads
 pub mod Tables
+pub mod Columns
 pub mod Edges
 pub mod Loaded
-pub mod Gates
 pub mod Delayed

@@ -1,54 +1,52 @@
 -- The loads, from the last node to the first: before node j is taken, each entry is what the children after j add to it, so the load at j is whole, and j
 -- adds its wire and the load at its lower end to the load at its parent (01, Timing rule; source 001, section 2: all wire of the stage counts).
-use mathlib.Core.Path.{_≡_, refl, sym, _∙_}
+use mathlib.Core.Path.{_≡_, refl, ap, sym, _∙_}
 use mathlib.Core.Logic.{_⊎_, inl, inr}
 use mathlib.Core.List.{List}
 use Prim.Native.Nat.{ℕ, zero, suc, _+_, _*_, _-_, _≤_, _<_}
 use native.Mathlib.Omega.{arith}
 use native.Mathlib.Nat.{zero-add, suc-add, add-zero, sub-zero}
 use lib.Dec.{eqb}
-use lib.ListN.{length, getD, replicate, length-replicate, getD-replicate, List·getD-eq-default}
-use native.Mathlib.Decide.{decLt}
+use lib.ListN.{length, getD, replicate, length-replicate}
 use borrow.Author.Tests.{eq-eqb, ne-eqb}
 use Rattle.laws.specs.Basic.{if_then_else_}
 use Rattle.laws.specs.Booleans.{same-or}
-use Rattle.rules.specs.Tree.{Net, at, layerCount}
-use Rattle.rules.specs.Bytes.{maxLayers}
+use Rattle.rules.specs.Tree.{Net, at, stageOf, on}
 use Rattle.rules.specs.Timing.{load}
 use Rattle.facts.specs.Accepted.{Accepted}
 use Rattle.facts.specs.Loads.{maxLoad, addedLoad, childLoad, load-children, load-after, load-in}
 use Rattle.delays.specs.Tables.{entry, Row, RowIn, Filled, row-kept}
-use Rattle.delays.specs.Edges.{Units, addedOn, EdgeIn, LoadAt, added-is, edge-in}
+use Rattle.tree.specs.Staged.{stageBelow, stage-is-below, below-is}
+use Rattle.delays.specs.Columns.{zeros}
+use Rattle.delays.specs.Edges.{addedOn, EdgeIn, LoadAt, added-is, edge-in}
 
--- Entry i * 16 + l is the load at node i on layer l.
-pub record Loaded (n : Net) (table : List ℕ) : Type 0 where
-  pub each : (i l : ℕ) → i ≤ length (n .nodes) → l < layerCount n → entry table i l ≡ load n l i
-  pub long : length table ≡ 4096
+-- Entry i * w + c is the load at node i, on the layer that column c of the stage below i stands for.
+pub record Loaded (n : Net) (first : List ℕ) (w : ℕ) (table : List ℕ) : Type 0 where
+  pub each : (i c : ℕ) → i ≤ length (n .nodes) → c < w → entry w table i c ≡ load n (on first (stageBelow n i) + c) i
+  pub long : 256 * w ≤ length table
 
 -- A table with no load yet.
-pub record Unloaded (table : List ℕ) : Type 0 where
+pub record Unloaded (w : ℕ) (table : List ℕ) : Type 0 where
   pub each : (k : ℕ) → getD table k 0 ≡ 0
-  pub long : length table ≡ 4096
+  pub long : 256 * w ≤ length table
 
--- An array of zeros is such a table (what a caller with a fresh array of 4096 zeros has).
-pub unloaded-zeros : (m : ℕ) → m ≡ 4096 → Unloaded (replicate {A = ℕ} m 0)
-unloaded-zeros m e = record { each = λ k. go k (decLt k m); long = length-replicate {A = ℕ} m 0 ∙ e }
-  where
-    go : (k : ℕ) → Dec (k < m) → _≡_ {A = ℕ} (getD (replicate {A = ℕ} m 0) k 0) 0
-    go k (yes h) = getD-replicate m k 0 0 h
-    go k (no h) = List·getD-eq-default (replicate {A = ℕ} m 0) 0 (omega (arith, length-replicate {A = ℕ} m 0))
+-- An array of zeros is such a table (what a caller with a fresh array has).
+pub unloaded-zeros : (w m : ℕ) → 256 * w ≤ m → Unloaded w (replicate {A = ℕ} m 0)
+unloaded-zeros w m e = record { each = zeros m; long = omega (arith, length-replicate {A = ℕ} m 0) }
 
 -- The pass when nodes 1 to j are still to come.
-pub record Loading (n : Net) (table : List ℕ) (j : ℕ) : Type 0 where
+pub record Loading (n : Net) (first : List ℕ) (w : ℕ) (table : List ℕ) (j : ℕ) : Type 0 where
   pub inside : j ≤ length (n .nodes)
-  pub each : (i l : ℕ) → i ≤ length (n .nodes) → l < layerCount n → entry table i l ≡ childLoad n l i (suc j) (length (n .nodes) - j)
-  pub long : length table ≡ 4096
+  pub each : (i c : ℕ) → i ≤ length (n .nodes) → c < w
+      → entry w table i c ≡ childLoad n (on first (stageBelow n i) + c) i (suc j) (length (n .nodes) - j)
+  pub long : 256 * w ≤ length table
 
-pub loading-start : (n : Net) {table : List ℕ} {nodes : ℕ} → nodes ≡ length (n .nodes) → Unloaded table → Loading n table nodes
+pub loading-start : (n : Net) (first : List ℕ) {w : ℕ} {table : List ℕ} {nodes : ℕ} → nodes ≡ length
+    (n .nodes) → Unloaded w table → Loading n first w table nodes
 unfolding childLoad
-loading-start n {table} {nodes} e Z = record {
+loading-start n first {w} {table} {nodes} e Z = record {
   inside = omega arith;
-  each = λ i l a b. let none : length (n .nodes) - nodes ≡ 0 = omega arith in rw none (Z .each (i * maxLayers + l));
+  each = λ i c a b. let none : length (n .nodes) - nodes ≡ 0 = omega arith in rw none (Z .each (i * w + c));
   long = Z .long;
 }
 
@@ -66,31 +64,32 @@ child-more : (n : Net) (l i j c : ℕ) → childLoad n l i j (suc c) ≡ (if eqb
 unfolding childLoad
 child-more n l i j c = refl
 
--- What a turn at node j may rely on, and what it leaves.
-pub record LoadTurn (n : Net) (unit table : List ℕ) (layers j : ℕ) : Type 0 where
+-- What a turn at node j may rely on, l being the first layer of its stage, and what it leaves.
+pub record LoadTurn (n : Net) (first : List ℕ) (w : ℕ) (table : List ℕ) (l j : ℕ) : Type 0 where
   pub parent-lower : at n j .parent < j
-  pub edge : EdgeIn unit table (at n j .len) (at n j .kind) j layers
-  pub parent-row : RowIn table (at n j .parent) layers maxLoad
+  pub edge : EdgeIn n w table (at n j .len) (at n j .kind) l j
+  pub parent-row : RowIn w table (at n j .parent) maxLoad
   pub onward : {table′ : List ℕ}
-      → Filled table table′ (at n j .parent) layers (λ l. entry table (at n j .parent) l + addedOn unit table (at n j .len) (at n j .kind) j l)
-      → Loading n table′ (j - 1)
+      → Filled w table table′ (at n j .parent) w (λ c. entry w table (at n j .parent) c + addedOn n w table (at n j .len) (at n j .kind) l j c)
+      → Loading n first w table′ (j - 1)
 
 module _ {n : Net} (A : Accepted n) where
-  pub loading-end : {table : List ℕ} {j : ℕ} → Loading n table j → j ≡ 0 → Loaded n table
-  loading-end {table} {j} G e = record {
-    each = λ i l a b. G .each i l a b ∙ rw (e, sub-zero) (sym (load-children A l i));
+  pub loading-end : {first : List ℕ} {w : ℕ} {table : List ℕ} {j : ℕ} → Loading n first w table j → j ≡ 0 → Loaded n first w table
+  loading-end {first} G e = record {
+    each = λ i c a b. G .each i c a b ∙ rw (e, sub-zero) (sym (load-children A (on first (stageBelow n i) + c) i));
     long = G .long;
   }
 
-  pub load-turn : {unit table : List ℕ} {layers j : ℕ} → layers ≡ layerCount n → Units n unit layers → Loading n table j → 1 ≤ j → LoadTurn n unit table layers j
-  load-turn {unit} {table} {layers} {j} e U G h = record {
+  pub load-turn : {first : List ℕ} {w : ℕ} {table : List ℕ} {l j : ℕ} → Loading n first w table j → 1 ≤ j → l ≡ on first
+      (stageOf n j) → LoadTurn n first w table l j
+  load-turn {first} {w} {table} {l} {j} G h e = record {
     parent-lower = lower;
-    edge = edge-in U whole A (row j (omega (arith, G .inside, A .few-nodes)));
+    edge = edge-in whole A (row j (omega (arith, G .inside, A .few-nodes)));
     parent-row = record { row = row p (omega (arith, lower, G .inside, A .few-nodes)); each = parent-in };
     onward = λ F. record {
       inside = omega (arith, G .inside);
-      each = λ i l a b. go F i l a b (same-or p i);
-      long = F .long ∙ G .long;
+      each = λ i c a b. go F i c a b (same-or p i);
+      long = omega (arith, F .long, G .long);
     };
   }
     where
@@ -100,35 +99,45 @@ module _ {n : Net} (A : Accepted n) where
       lower : p < j
       lower = A .parent-lower j h
 
-      row : (i : ℕ) → i < 256 → Row table i layers
-      row i b = record { few = omega (arith, A .few-layers); node-in = b; long = G .long }
+      -- The wire below the parent is on the layers of the edge's stage.
+      on-is : on first (stageBelow n p) ≡ l
+      on-is = sym (e ∙ ap (on first) (stage-is-below A j h))
 
-      whole : LoadAt n table j layers
-      whole = record { is = λ l b. G .each j l (G .inside) (omega arith) ∙ sym (load-after A l j (G .inside)) }
+      row : (i : ℕ) → i < 256 → Row w table i
+      row i b = record { node-in = b; long = G .long }
 
-      parent-in : (l : ℕ) → l < layers → entry table p l ≤ maxLoad
-      parent-in l b =
-          let is = G .each p l (omega (arith, lower, G .inside)) (omega arith) in
-          let part = rest-le n l p j 1 (length (n .nodes) - j) in
+      whole : LoadAt n w table l j
+      whole = record {
+        is = λ s c b.
+            let q : on first (stageBelow n j) ≡ l = ap (on first) (below-is A j h ∙ rw s refl) ∙ sym e in
+            rw (← q) (G .each j c (G .inside) b ∙ sym (load-after A (on first (stageBelow n j) + c) j (G .inside)));
+      }
+
+      held : (c : ℕ) → c < w → entry w table p c ≡ childLoad n (l + c) p (suc j) (length (n .nodes) - j)
+      held c b = rw on-is at (G .each p c (omega (arith, lower, G .inside)) b)
+
+      parent-in : (c : ℕ) → c < w → entry w table p c ≤ maxLoad
+      parent-in c b =
+          let part = rest-le n (l + c) p j 1 (length (n .nodes) - j) in
           let q : 1 + j ≡ suc j = omega arith in
           let r : j + (length (n .nodes) - j) ≡ length (n .nodes) = omega (arith, G .inside) in
-          omega (arith, rw (q, r) at part, load-children A l p, load-in A l p)
+          omega (arith, held c b, rw (q, r) at part, load-children A (l + c) p, load-in A (l + c) p)
 
-      more : (i l : ℕ) → childLoad n l i (suc (j - 1)) (length (n .nodes) - (j - 1))
-          ≡ (if eqb p i then addedLoad n l j else 0) + childLoad n l i (suc j) (length (n .nodes) - j)
-      more i l =
+      more : (i m : ℕ) → childLoad n m i (suc (j - 1)) (length (n .nodes) - (j - 1))
+          ≡ (if eqb p i then addedLoad n m j else 0) + childLoad n m i (suc j) (length (n .nodes) - j)
+      more i m =
           let q : suc (j - 1) ≡ j = omega arith in
           let r : length (n .nodes) - (j - 1) ≡ suc (length (n .nodes) - j) = omega (arith, G .inside) in
-          rw (q, r) (child-more n l i j (length (n .nodes) - j))
+          rw (q, r) (child-more n m i j (length (n .nodes) - j))
 
-      go : {table′ : List ℕ} → Filled table table′ p layers (λ l. entry table p l + addedOn unit table (at n j .len) (at n j .kind) j l)
-          → (i l : ℕ) → i ≤ length (n .nodes) → l < layerCount n → (i ≡ p) ⊎ (i ≡ p → ⊥)
-          → entry table′ i l ≡ childLoad n l i (suc (j - 1)) (length (n .nodes) - (j - 1))
-      go F i l a b (inl q) =
-          let m = more p l in
+      go : {table′ : List ℕ} → Filled w table table′ p w (λ c. entry w table p c + addedOn n w table (at n j .len) (at n j .kind) l j c)
+          → (i c : ℕ) → i ≤ length (n .nodes) → c < w → (i ≡ p) ⊎ (i ≡ p → ⊥)
+          → entry w table′ i c ≡ childLoad n (on first (stageBelow n i) + c) i (suc (j - 1)) (length (n .nodes) - (j - 1))
+      go F i c a b (inl q) =
+          let m = more p (l + c) in
           let s = rw (eq-eqb p p refl) at m in
-          rw q (omega (arith, F .filled l (omega arith), added-is U whole l (omega arith), G .each p l (omega (arith, lower, G .inside)) b, s))
-      go F i l a b (inr ne) =
-          let m = more i l in
+          rw (q, on-is) (omega (arith, F .filled c b, added-is whole c b, held c b, s))
+      go F i c a b (inr ne) =
+          let m = more i (on first (stageBelow n i) + c) in
           let s = rw (ne-eqb p i (λ q. ne (sym q))) at m in
-          omega (arith, row-kept F i l (omega (arith, A .few-layers)) ne, G .each i l a b, s)
+          omega (arith, row-kept F i c b ne, G .each i c a b, s)

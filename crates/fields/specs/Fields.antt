@@ -1,9 +1,7 @@
 -- The answers of the code in the terms of 01.
 use mathlib.Core.Bool.{Bool}
-use mathlib.Core.List.{List, map}
-use Prim.Native.Nat.{ℕ, _+_, _*_}
-use Rattle.laws.specs.Basic.{all, from}
-use Rattle.rules.specs.Bytes.{Field, dueLayers, dueDriver, dueNode, layerAt, isLayer}
+use Prim.Native.Nat.{ℕ}
+use Rattle.rules.specs.Bytes.{Field, dueLayers, dueDriver, dueNode}
 use Rattle.rules.specs.Reading.{Answer, accept, refuse}
 use Rattle.fields.specs.declared.Due.{Due}
 use Rattle.fields.specs.declared.Due.the-variants as due
@@ -25,7 +23,3 @@ foundField (found.Refused r) = refuse r
 abbrev pub foundRefusal : Found → ℕ
 foundRefusal (found.Field tag start size) = 0
 foundRefusal (found.Refused r) = r
-
--- the layers of a payload of L layers at i are in their ranges
-unfoldable pub layersIn : List ℕ → ℕ → ℕ → Bool
-layersIn bs i L = all (map isLayer (map (λ k. layerAt bs (i + 4 * k)) (from 0 L)))

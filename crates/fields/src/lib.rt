@@ -1,33 +1,32 @@
 // Numbers, times, fields and ranges in net bytes (01, Net bytes and Reading): the leaves of the reader.
 use rules::Kind;
 ghost use mathlib.Core.Path.{_≡_};
-ghost use Prim.Native.Nat.{ℕ, _+_, _*_, _≤_};
+ghost use Prim.Native.Nat.{_+_, _*_, _≤_};
 ghost use lib.ListN.{length};
 ghost use Rattle.laws.specs.Basic.{within};
-ghost use Rattle.rules.specs.Bytes.{maxLayers, number, signed, kindSize, kindAt, isTime, isKind, costsAt, isCosts, layerAt, isLayer, driverAt, isDriver};
+ghost use Rattle.rules.specs.Bytes.{maxLayers, number, signed, kindSize, isTime, isKind};
 ghost use Rattle.rules.specs.Reading.{field};
-ghost use Rattle.fields.specs.Fields.{dueOf, foundField, foundRefusal, layersIn};
+ghost use Rattle.fields.specs.Fields.{dueOf, foundField, foundRefusal};
 
-// The number in the `width` bytes from `at` on, most significant first.
-pub fn number(net: &[u8], at: usize, width: usize) -> u64
-    requires { ⌜ (width ≤ 8) × (at + width ≤ length (now net)) ⌝ }
+// The number in the `width` bytes from `at` on, at most four of them, most significant first.
+pub fn number(net: &[u8], at: usize, width: usize) -> u32
+    requires { ⌜ (width ≤ 4) × (at + width ≤ length (now net)) ⌝ }
     ensures { λ r. ⌜ r ≡ number (now (net .entry)) at width ⌝ }
 {
-    let mut x: u64 = 0;
+    let mut x: u32 = 0;
     let mut k: usize = 0;
     while k < width {
-        x = x * 256 + (net[at + k] as u64);
+        x = x * 256 + (net[at + k] as u32);
         k += 1;
     }
     x
 }
 
-// The time in the 8 bytes from `at` on, in two's complement.
-pub fn time_at(net: &[u8], at: usize) -> i64
-    requires { ⌜ at + 8 ≤ length (now net) ⌝ }
-    ensures { λ r. ⌜ r ≡ signed (number (now (net .entry)) at 8) ⌝ }
+// The time whose 64 bits in two's complement are these two halves.
+pub fn time_of(high: u32, low: u32) -> i64
+    ensures { λ r. ⌜ r ≡ signed (high * 4294967296 + low) ⌝ }
 {
-    let x = number(net, at, 8);
+    let x = (high as u64) * 0x1_0000_0000 + (low as u64);
     if x < 0x8000_0000_0000_0000 {
         return x as i64;
     }
@@ -53,14 +52,14 @@ pub enum Due {
 }
 
 // How many bytes a kind's own numbers take.
-fn kind_size(tag: u64) -> usize
+fn kind_size(tag: u32) -> usize
     ensures { λ r. ⌜ r ≡ kindSize tag ⌝ }
 {
     if tag == 3 { 0 } else { 12 }
 }
 
 // Whether the field that is due may have this tag and payload length.
-fn allowed(due: Due, layers: usize, tag: u64, size: usize) -> bool
+fn allowed(due: Due, layers: usize, tag: u32, size: usize) -> bool
     requires { ⌜ layers ≤ maxLayers ⌝ }
     ensures { λ r. ⌜ r ≡ dueOf due layers tag size ⌝ }
 {
@@ -98,7 +97,7 @@ fn allowed(due: Due, layers: usize, tag: u64, size: usize) -> bool
 
 // What a field read finds: the field, or its refusal number.
 pub enum Found {
-    Field { tag: u64, start: usize, size: usize },
+    Field { tag: u32, start: usize, size: usize },
     Refused(u8),
 }
 
@@ -141,33 +140,8 @@ pub fn found_refusal(found: Found) -> u8
     }
 }
 
-// The kind of a tag, whose own numbers stand at `at`.
-pub fn kind_at(net: &[u8], tag: u64, at: usize) -> Kind
-    requires { ⌜ at + kindSize tag ≤ length (now net) ⌝ }
-    ensures { λ r. ⌜ r ≡ kindAt (now (net .entry)) tag at ⌝ }
-{
-    if tag == 3 {
-        return Kind::Steiner;
-    }
-    let input_cap = number(net, at, 4);
-    if tag == 4 {
-        let gate_res = number(net, at + 4, 4);
-        let intrinsic = number(net, at + 8, 4);
-        return Kind::Buffer {
-            input_cap,
-            gate_res,
-            intrinsic,
-        };
-    }
-    let required = time_at(net, at + 4);
-    Kind::Sink {
-        input_cap,
-        required,
-    }
-}
-
 // Whether a time is in its range.
-fn time_in_range(t: i64) -> bool
+pub fn time_in_range(t: i64) -> bool
     ensures { λ r. ⌜ r ≡ isTime t ⌝ }
 {
     if -rules::MAX_TIME <= t {
@@ -205,65 +179,4 @@ pub fn kind_in_range(kind: Kind) -> bool
             time_in_range(required)
         }
     }
-}
-
-// Whether the costs from `at` on, one for each layer, are in their range.
-pub fn costs_in_range(net: &[u8], at: usize, layers: usize) -> bool
-    requires { ⌜ (layers ≤ maxLayers) × (at + 4 * layers ≤ length (now net)) ⌝ }
-    ensures { λ r. ⌜ r ≡ isCosts (costsAt (now (net .entry)) layers at) ⌝ }
-{
-    let mut k: usize = 0;
-    while k < layers {
-        let cost = number(net, at + 4 * k, 4);
-        if !within(cost, 1, rules::MAX_COST) {
-            return false;
-        }
-        k += 1;
-    }
-    true
-}
-
-// Whether the layer at `at` is in its ranges.
-fn layer_in_range(net: &[u8], at: usize) -> bool
-    requires { ⌜ at + 4 ≤ length (now net) ⌝ }
-    ensures { λ r. ⌜ r ≡ isLayer (layerAt (now (net .entry)) at) ⌝ }
-{
-    let unit_res = number(net, at, 2);
-    let unit_cap = number(net, at + 2, 2);
-    if !within(unit_res, 1, rules::MAX_UNIT) {
-        return false;
-    }
-    within(unit_cap, 1, rules::MAX_UNIT)
-}
-
-// Whether the layers from `at` on are in their ranges.
-pub fn layers_in_range(net: &[u8], at: usize, layers: usize) -> bool
-    requires { ⌜ (layers ≤ maxLayers) × (at + 4 * layers ≤ length (now net)) ⌝ }
-    ensures { λ r. ⌜ r ≡ layersIn (now (net .entry)) at layers ⌝ }
-{
-    let mut k: usize = 0;
-    while k < layers {
-        if !layer_in_range(net, at + 4 * k) {
-            return false;
-        }
-        k += 1;
-    }
-    true
-}
-
-// Whether the driver at `at` is in its ranges.
-pub fn driver_in_range(net: &[u8], at: usize) -> bool
-    requires { ⌜ at + 16 ≤ length (now net) ⌝ }
-    ensures { λ r. ⌜ r ≡ isDriver (driverAt (now (net .entry)) at) ⌝ }
-{
-    let gate_res = number(net, at, 4);
-    let intrinsic = number(net, at + 4, 4);
-    let arrival = time_at(net, at + 8);
-    if rules::MAX_GATE_RES < gate_res {
-        return false;
-    }
-    if rules::MAX_INTRINSIC < intrinsic {
-        return false;
-    }
-    time_in_range(arrival)
 }

@@ -17,15 +17,15 @@ use Rattle.rules.specs.declared.Planned.{Planned}
 use Rattle.rules.specs.declared.Judged.{Judged}
 use Rattle.rules.specs.Tree.{Net, stages, isPlan, areLayers}
 use Rattle.rules.specs.Timing.{cost, slack}
-use Rattle.rules.specs.Reading.{accept, refuse, _>>=_, _>>_, _unless_}
+use Rattle.rules.specs.Reading.{accept, refuse, read}
 use Rattle.rules.specs.Planning.{maxShare, Choice, planned, cleared, plan, planAnswer, IsFloor, FloorPromise}
 use Rattle.facts.specs.Answers.{accept-injective}
 use Rattle.facts.specs.Fits.{slack-fits, fits-signed}
-use Rattle.tree.specs.Held.{Kept, netOf, held-accepted}
+use Rattle.words.specs.Words.{netIn}
+use Rattle.words.specs.Held.{Held, held-accepted}
+use Rattle.tree.specs.Plans.{Fitting, fitting}
 use Rattle.demands.specs.StageNumbers.{treeOf}
 use Rattle.demands.specs.Call.{share-in, all-late, all-pass, plan-accepted}
-use Rattle.timing.specs.Tables.{Fitting, fitting}
-use Rattle.costs.specs.Priced.{Priced}
 use Rattle.readoff.specs.Laid.{Laid}
 use Rattle.rounds.specs.Problem.{Problem}
 use Rattle.search.specs.Planned.{IsLate, IsShort, IsFound}
@@ -37,18 +37,19 @@ pub record Share (p q : ℕ) : Type 0 where
   pub some-part : 1 ≤ q
   pub parts : q ≤ maxShare
 
--- what is known past refusals 1 to 10: the bytes hold a net, the share is in its range, the plan buffer has room
-pub record Admitted (bs heads : List ℕ) (nodes layers s p q room : ℕ) : Type 0 where
-  pub kept : Kept bs heads nodes s layers
+-- what is known past refusals 1 to 10: the array holds a net, the share is in its range, the plan buffer has room
+pub record Admitted (w : List ℕ) (nodes layers s p q room : ℕ) : Type 0 where
+  pub held : Held w nodes layers
+  pub stages-are : s ≡ stages (netIn w)
   pub share : Share p q
   pub room-enough : s ≤ room
 
--- the search's problem, from what the numbers of the net give
-pub problem-in : {bs heads : List ℕ} {nodes layers s p q room : ℕ} → Admitted bs heads nodes layers s p q room → {driver wire : List ℕ} {limit : List ℤ} {costs : List ℕ}
-    → ((cost : List ℕ) → Priced (netOf bs) cost → Laid (treeOf (netOf bs)) driver wire limit cost) → Priced (netOf bs) costs → {a : ℤ} → a ≡ netOf bs .driver .arrival
-    → Problem (treeOf (netOf bs)) driver wire limit costs s layers a p q
-problem-in G laid priced e =
-    problem-of (held-accepted (G .kept .held)) (laid _ priced) (G .kept .stages-are) (G .kept .held .layers-are) e (G .share .most) (G .share .some-part) (G .share .parts)
+-- the search's problem, from the numbers of the net
+pub problem-in : {w : List ℕ} {nodes layers s p q room : ℕ} → Admitted w nodes layers s p q room → {driver wire : List ℕ} {limit : List ℤ} {costs : List ℕ}
+    → Laid (treeOf (netIn w)) driver wire limit costs → {a : ℤ} → a ≡ netIn w .driver .arrival
+    → Problem (treeOf (netIn w)) driver wire limit costs s layers a p q
+problem-in G laid e =
+    problem-of (held-accepted (G .held)) laid (G .stages-are) (G .held .layers-are) e (G .share .most) (G .share .some-part) (G .share .parts)
 
 -- a refusal: the number and zeros
 abbrev pub refusedWith : ℕ → Planned
@@ -64,6 +65,28 @@ share-passes {p} {q} S = share-in p q (S .most) (S .some-part) (S .parts)
 
 pub refused-floor : (bs : List ℕ) (p q r : ℕ) → 1 ≤ r → FloorPromise bs p q (refusedWith r)
 refused-floor bs p q r h = record { bounded = λ n e z. absurd (omega arith); zero-refused = λ z. refl }
+
+-- what the search found, in an array's net
+module _ {w : List ℕ} {nodes layers s p q : ℕ} (table : List ℤ) (buffer : List ℕ) (G : Admitted w nodes layers s p q (length buffer))
+    {k g v : ℕ} {after : List ℤ} {bufferAfter : List ℕ} (I : IsFound (treeOf (netIn w)) p q s table after buffer bufferAfter k g v) where
+  pub found : Served (held-accepted (G .held)) p q (length table) k g v buffer bufferAfter
+  found = served (held-accepted (G .held)) (G .stages-are) I
+
+  pub plan-here : take s bufferAfter ≡ found .x
+  plan-here = ap (λ (i : ℕ). take i bufferAfter) (G .stages-are) ∙ found .taken-is
+
+  -- what the plan buffer then opens with is a plan of the net
+  pub plan-fits : Fitting (netIn w) (take s bufferAfter)
+  unfolding isPlan
+  plan-fits =
+      let e = and-right (eqb (length (found .x)) (stages (netIn w))) (areLayers (netIn w) (found .x)) (found .is-plan) in
+      rw plan-here (fitting (found .x) (found .sized) e)
+
+  pub slack-told : {j : Judged} → j ≡ record { refusal = 0; cost = cost (netIn w) (take s bufferAfter); slack = slack (netIn w) (take s bufferAfter) }
+      → toZ w64 (ofZ w64 (j .slack)) ≡ slack (netIn w) (take s bufferAfter)
+  slack-told e =
+      ap (λ (j : Judged). toZ w64 (ofZ w64 (j .slack))) e ∙
+      toZ-ofZ (fits-signed (slack (netIn w) (take s bufferAfter)) (slack-fits (held-accepted (G .held)) (take s bufferAfter)))
 
 module _ (bs : List ℕ) (p q : ℕ) (table : List ℤ) (buffer : List ℕ) where
   -- a refusal other than 12 leaves buffer and table as they were
@@ -83,22 +106,24 @@ module _ (bs : List ℕ) (p q : ℕ) (table : List ℤ) (buffer : List ℕ) wher
   unfolding cleared
   plan-done e ek et eb floor = rw (ek, et, eb) (sym (plan-accepted bs p q table buffer e))
 
-  module _ {heads : List ℕ} {nodes layers s : ℕ} (G : Admitted bs heads nodes layers s p q (length buffer)) where
+  module _ {w : List ℕ} {nodes layers s : ℕ} (G : Admitted w nodes layers s p q (length buffer)) (hold : read bs ≡ accept (netIn w)) where
     abbrev n : Net
-    n = netOf bs
+    n = netIn w
 
     room-passes : leb (stages n) (length buffer) ≡ true
-    room-passes = le-leb (stages n) (length buffer) (omega (arith, G .room-enough, G .kept .stages-are))
+    room-passes = le-leb (stages n) (length buffer) (omega (arith, G .room-enough, G .stages-are))
 
-    planned-12 : TooShort {n = n} (held-accepted (G .kept .held)) p q (length table) → planned bs p q (length table) (length buffer) ≡ refuse 12
+    planned-12 : TooShort {n = n} (held-accepted (G .held)) p q (length table) → planned bs p q (length table) (length buffer) ≡ refuse 12
     unfolding planned
-    planned-12 S = simp (G .kept .held .holds, share-passes (G .share), room-passes, S .some-meets, S .few)
+    planned-12 S = simp (hold, share-passes (G .share), room-passes, S .some-meets, S .few)
 
     -- the answers, by the outcome of the search
     pub late-answer : {after : List ℤ} {bufferAfter : List ℕ} → IsLate (treeOf n) p q s table after buffer bufferAfter
         → PlansNet bs p q table after buffer bufferAfter (refusedWith 11)
     late-answer I = record {
-      same = rw (I .table-kept, I .plan-kept) (plan-refused (all-late bs p q (length table) (length buffer) (G .kept .held .holds) (share-passes (G .share)) room-passes (late (held-accepted (G .kept .held)) I)) refl);
+      same =
+          let e = all-late bs p q (length table) (length buffer) hold (share-passes (G .share)) room-passes (late (held-accepted (G .held)) I) in
+          rw (I .table-kept, I .plan-kept) (plan-refused e refl);
       floor-kept = refused-floor bs p q 11 (omega arith);
     }
 
@@ -106,40 +131,28 @@ module _ (bs : List ℕ) (p q : ℕ) (table : List ℤ) (buffer : List ℕ) wher
         → PlansNet bs p q table after buffer bufferAfter (refusedWith 12)
     unfolding cleared
     short-answer I = record {
-      same = rw (I .cleared, I .plan-kept) (plan-short (planned-12 (short (held-accepted (G .kept .held)) (G .kept .stages-are) I)));
+      same = rw (I .cleared, I .plan-kept) (plan-short (planned-12 (short (held-accepted (G .held)) (G .stages-are) I)));
       floor-kept = refused-floor bs p q 12 (omega arith);
     }
 
     module _ {k g v : ℕ} {after : List ℤ} {bufferAfter : List ℕ} (I : IsFound (treeOf n) p q s table after buffer bufferAfter k g v) where
-      pub found : Served (held-accepted (G .kept .held)) p q (length table) k g v buffer bufferAfter
-      found = served (held-accepted (G .kept .held)) (G .kept .stages-are) I
+      abbrev pub F : Served (held-accepted (G .held)) p q (length table) k g v buffer bufferAfter
+      F = found table buffer G I
 
-      pub plan-here : take s bufferAfter ≡ found .x
-      plan-here = ap (λ (i : ℕ). take i bufferAfter) (G .kept .stages-are) ∙ found .taken-is
-
-      pub found-answer : PlansNet bs p q table after buffer bufferAfter (record { refusal = 0; cost = cost n (found .x); slack = slack n (found .x); k = k; floor = g * v })
+      pub found-answer : PlansNet bs p q table after buffer bufferAfter
+          (record { refusal = 0; cost = cost n (F .x); slack = slack n (F .x); k = k; floor = g * v })
       found-answer = record {
         same =
-            let a = all-pass bs p q (length table) (length buffer) (G .kept .held .holds) (share-passes (G .share)) room-passes (found .some-meets) (found .enough) (found .chosen-here) in
-            plan-done a (found .exponent-is) (I .cleared) (found .after-is) (g * v);
+            let a = all-pass bs p q (length table) (length buffer) hold (share-passes (G .share)) room-passes (F .some-meets) (F .enough) (F .chosen-here) in
+            plan-done a (F .exponent-is) (I .cleared) (F .after-is) (g * v);
         floor-kept = record {
-          bounded = λ m e z. subst (λ (y : Net). IsFloor y p q (cost n (found .x)) (g * v)) (accept-injective (sym (G .kept .held .holds) ∙ e)) (floor-is (held-accepted (G .kept .held)) found);
+          bounded = λ m e z.
+              subst (λ (y : Net). IsFloor y p q (cost n (F .x)) (g * v)) (accept-injective (sym hold ∙ e)) (floor-is (held-accepted (G .held)) F);
           zero-refused = λ z. absurd (z refl);
         };
       }
 
-      -- what the plan buffer then opens with is a plan of the net
-      pub plan-fits : Fitting n (take s bufferAfter)
-      unfolding isPlan
-      plan-fits = rw plan-here (fitting (found .x) (found .sized) (and-right (eqb (length (found .x)) (stages n)) (areLayers n (found .x)) (found .is-plan)))
-
       -- the answer with the cost and slack that judging gives
       pub found-judged : {c : ℕ} {t : ℤ} → c ≡ cost n (take s bufferAfter) → t ≡ slack n (take s bufferAfter)
           → PlansNet bs p q table after buffer bufferAfter (record { refusal = 0; cost = c; slack = t; k = k; floor = g * v })
-      found-judged ec et = rw (ec ∙ ap (cost n) plan-here, et ∙ ap (slack n) plan-here) found-answer
-
-      pub slack-told : {j : Judged} → j ≡ record { refusal = 0; cost = cost n (take s bufferAfter); slack = slack n (take s bufferAfter) }
-          → toZ w64 (ofZ w64 (j .slack)) ≡ slack n (take s bufferAfter)
-      slack-told e =
-          ap (λ (j : Judged). toZ w64 (ofZ w64 (j .slack))) e ∙
-          toZ-ofZ (fits-signed (slack n (take s bufferAfter)) (slack-fits (held-accepted (G .kept .held)) (take s bufferAfter)))
+      found-judged ec et = rw (ec ∙ ap (cost n) (plan-here table buffer G I), et ∙ ap (slack n) (plan-here table buffer G I)) found-answer

@@ -27,8 +27,9 @@ use Rattle.rounds.specs.Problem.{Problem}
 use Rattle.search.specs.Planned.{IsLate, IsShort, IsFound}
 
 -- the search's problem, from the numbers of the net
-pub problem-of : {n : Net} → Accepted n → {driver wire : List ℕ} {limit : List ℤ} {costs : List ℕ} → Laid (treeOf n) driver wire limit costs → {s l : ℕ} {a : ℤ} {p q : ℕ}
-    → s ≡ stages n → l ≡ layerCount n → a ≡ n .driver .arrival → p ≤ 1000 → 1 ≤ q → q ≤ 1000 → Problem (treeOf n) driver wire limit costs s l a p q
+pub problem-of : {n : Net} → Accepted n → {driver wire : List ℕ} {limit : List ℤ} {costs : List ℕ} → Laid (treeOf n) driver wire limit costs
+    → {s l : ℕ} {a : ℤ} {p q : ℕ} → s ≡ stages n → l ≡ layerCount n → a ≡ n .driver .arrival → p ≤ 1000 → 1 ≤ q → q ≤ 1000
+    → Problem (treeOf n) driver wire limit costs s l a p q
 problem-of A L es el ea hp hq hq′ = record {
   numbers = record { laid = L; tree = well-formed A; stages-are = es; layers-are = el; arrival-is = ea; cheap = small-costs A };
   share = hp;
@@ -38,7 +39,8 @@ problem-of A L es el ea hp hq hq′ = record {
 
 module _ {n : Net} (A : Accepted n) where
   -- no plan meets timing: refusal 11
-  pub late : {p q s : ℕ} {table after : List ℤ} {plan planAfter : List ℕ} → IsLate (treeOf n) p q s table after plan planAfter → ltb 0 (length (meetingPlans n)) ≡ false
+  pub late : {p q s : ℕ} {table after : List ℤ} {plan planAfter : List ℕ} → IsLate (treeOf n) p q s table after plan planAfter
+      → ltb 0 (length (meetingPlans n)) ≡ false
   late I = go (ltb 0 (length (meetingPlans n))) refl
     where
       go : (b : Bool) → ltb 0 (length (meetingPlans n)) ≡ b → ltb 0 (length (meetingPlans n)) ≡ false
@@ -56,7 +58,8 @@ module _ {n : Net} (A : Accepted n) where
     pub some-meets : ltb 0 (length (meetingPlans n)) ≡ true
     pub few : leb (columnsNeeded n (grainExponent n p q)) (columns n entries) ≡ false
 
-  pub short : {p q s : ℕ} {table after : List ℤ} {plan planAfter : List ℕ} → s ≡ stages n → IsShort (treeOf n) p q s table after plan planAfter → TooShort p q (length table)
+  pub short : {p q s : ℕ} {table after : List ℤ} {plan planAfter : List ℕ} → s ≡ stages n → IsShort (treeOf n) p q s table after plan planAfter
+      → TooShort p q (length table)
   unfolding columnsNeeded columns
   short {p} {q} {table = table} es I =
       let (x, M) = I .meeting in
@@ -85,13 +88,15 @@ module _ {n : Net} (A : Accepted n) where
   served {p} {q} {s} {k} {g} {v} {table} {after} {plan} {planAfter} es I =
       let ek : k ≡ grainExponent n p q = I .exponent-is ∙ exponent-same A p q in
       let ev : v ≡ leastRounded n k = I .value-is ∙ value-same A k in
-      let o : chosen n (grainExponent n p q) ≡ some (I .chosen) = sym (first-same A (grainExponent n p q)) ∙ (ap (firstPlan (treeOf n)) (sym ek) ∙ I .chosen-is) in
+      let o : chosen n (grainExponent n p q) ≡ some (I .chosen) =
+      sym (first-same A (grainExponent n p q)) ∙ (ap (firstPlan (treeOf n)) (sym ek) ∙ I .chosen-is) in
       let C = chosen-is n (grainExponent n p q) (I .chosen) o in
       let len : length (I .chosen) ≡ stages n = plan-length n (I .chosen) (C .is-plan) in
       let b : planAfter ≡ I .chosen ++ drop (length (I .chosen)) plan = I .plan-is ∙ ap (λ (i : ℕ). I .chosen ++ drop i plan) (es ∙ sym len) in
       record {
         some-meets = some-plan-iff n .1 (I .chosen, C .is-plan, C .meets-timing);
-        enough = le-leb (leastRounded n (grainExponent n p q) + 1) (length table / (stages n + 2)) (omega (arith, rw es at (I .fits), ev, ap (leastRounded n) ek));
+        enough =
+            le-leb (leastRounded n (grainExponent n p q) + 1) (length table / (stages n + 2)) (omega (arith, rw es at (I .fits), ev, ap (leastRounded n) ek));
         exponent-is = ek;
         grain-is = I .grain-is;
         value-is = ev;
@@ -100,14 +105,17 @@ module _ {n : Net} (A : Accepted n) where
         is-plan = C .is-plan;
         sized = len;
         after-is = b;
-        taken-is = ap (λ (i : ℕ). take i planAfter) (sym len) ∙ (ap (take (length (I .chosen))) b ∙ take-at (I .chosen) (drop (length (I .chosen)) plan) (length (I .chosen)) refl);
+        taken-is =
+            ap (λ (i : ℕ). take i planAfter) (sym len) ∙
+            (ap (take (length (I .chosen))) b ∙ take-at (I .chosen) (drop (length (I .chosen)) plan) (length (I .chosen)) refl);
       }
 
   -- the floor g × V(k) keeps both bounds, and is small
   pub floor-is : {p q entries k g v : ℕ} {plan planAfter : List ℕ} (S : Served p q entries k g v plan planAfter) → IsFloor n p q (cost n (S .x)) (g * v)
   floor-is {p} {q} {k = k} {g = g} {v = v} S =
       let e : 2 ^ grainExponent n p q * leastRounded n (grainExponent n p q) ≡ g * v =
-      ap (λ (i : ℕ). 2 ^ i * leastRounded n i) (sym (S .exponent-is)) ∙ (ap (λ (i : ℕ). i * leastRounded n k) (sym (S .grain-is)) ∙ ap (λ (i : ℕ). g * i) (sym (S .value-is))) in
+      ap (λ (i : ℕ). 2 ^ i * leastRounded n i) (sym (S .exponent-is)) ∙
+      (ap (λ (i : ℕ). i * leastRounded n k) (sym (S .grain-is)) ∙ ap (λ (i : ℕ). g * i) (sym (S .value-is))) in
       rw e at (chosen-floor A p q (S .x) (S .chosen-here))
 
   pub floor-low : {p q entries k g v : ℕ} {plan planAfter : List ℕ} → Served p q entries k g v plan planAfter → g * v < 2 ^ maxExponent

@@ -1,66 +1,109 @@
 // Planning a net that was read (01, Planning): the numbers of its tree of stages, the search over the grains, and what the plan found costs.
-use fields::time_at;
+use costs::stage_costs;
+use delays::layer_delays;
 use rules::Planned;
 use search::Outcome;
 use search::plan_tree;
 use stage_numbers::stage_numbers;
 use timing::judged_by;
-use timing::tables;
+use tree::stages;
+use words::arrival;
 ghost use mathlib.Core.Path.{_≡_};
-ghost use lib.ListN.{length};
-ghost use Rattle.tree.specs.Held.{netOf};
+ghost use mathlib.Core.List.{List};
+ghost use Prim.Native.Nat.{ℕ};
+ghost use lib.ListN.{length, replicate};
+ghost use Rattle.rules.specs.Reading.{accept, read};
+ghost use Rattle.words.specs.Words.{netIn};
 ghost use Rattle.demands.specs.StageNumbers.{treeOf};
-ghost use Rattle.timing.specs.Tables.{Tables};
+ghost use Rattle.words.specs.Held.{Held};
+ghost use Rattle.tree.specs.Staged.{Staged};
+ghost use Rattle.readoff.specs.Laid.{Laid, noLimit};
 ghost use Rattle.search.specs.Planned as search;
 ghost use Rattle.planning.specs.Calls.{Admitted, refusedWith, PlansNet};
 
-// The outcome of the search over the tree of stages of a net, by its tables.
-fn plan_stages(
-    net: &[u8],
-    heads: &[usize],
+// What stands for no limit at all: no time that is compared with it is later.
+const NO_LIMIT: i64 = 0x4000_0000_0000_0000;
+
+// The numbers of a net's tree of stages, for the search: for each stage its driver, and on each layer the delay to it, the limit of its sinks and its cost.
+fn numbers(
+    words: &[u32],
     layers: usize,
     nodes: usize,
-    stages: usize,
     stage: &[usize],
     below: &[usize],
-    delay: &[u64],
-    costs: &[u64],
+    driver: &mut [usize],
+    wire: &mut [u64],
+    limit: &mut [i64],
+    costs: &mut [u64],
+)
+    requires { ⌜
+        Held (now words) nodes layers × Staged (netIn (now words)) (now stage) (now below) ×
+        (length (now driver) ≡ 64) × (length (now wire) ≡ 1024) × (now limit ≡ replicate 1024 noLimit) × (now costs ≡ replicate 1024 0)
+        ⌝ }
+    ensures { λ r. ⌜
+        Laid (treeOf (netIn (now (words .entry)))) (now (driver .exit)) (now (wire .exit)) (now (limit .exit)) (now (costs .exit))
+        ⌝ }
+{
+    let mut delay = [0u64; 4096];
+    layer_delays(words, layers, nodes, stage, &mut delay);
+    stage_numbers(
+        words,
+        layers,
+        nodes,
+        stage,
+        below,
+        &delay,
+        driver,
+        wire,
+        limit,
+    );
+    stage_costs(words, layers, nodes, stage, costs);
+}
+
+// The outcome of the search over the tree of stages of a net.
+fn plan_stages(
+    words: &[u32],
+    layers: usize,
+    nodes: usize,
+    count: usize,
+    stage: &[usize],
+    below: &[usize],
     p: u64,
     q: u64,
     table: &mut [i64],
     plan: &mut [u8],
 ) -> Outcome
     requires { ⌜
-        Admitted (now net) (now heads) nodes layers stages p q (length (now plan)) × Tables (netOf (now net)) (now stage) (now below) (now delay) (now costs)
+        Admitted (now words) nodes layers count p q (length (now plan)) × Staged (netIn (now words)) (now stage) (now below)
         ⌝ }
     ensures { λ r. ⌜
-        search.Planned (treeOf (netOf (now (net .entry)))) p q stages (now (table .entry)) (now (table .exit)) (now (plan .entry)) (now (plan .exit)) r
+        search.Planned (treeOf (netIn (now (words .entry)))) p q count (now (table .entry)) (now (table .exit)) (now (plan .entry)) (now (plan .exit)) r
         ⌝ }
 {
     let mut driver = [0usize; 64];
     let mut wire = [0u64; 1024];
-    let mut limit = [0i64; 1024];
-    stage_numbers(
-        net,
-        heads,
+    let mut limit = [NO_LIMIT; 1024];
+    let mut costs = [0u64; 1024];
+    numbers(
+        words,
         layers,
         nodes,
         stage,
         below,
-        delay,
         &mut driver,
         &mut wire,
         &mut limit,
+        &mut costs,
     );
-    let arrival = time_at(net, 14 + 4 * layers);
+    let arrives = arrival(words);
     plan_tree(
         &driver,
         &wire,
         &limit,
-        costs,
-        stages,
+        &costs,
+        count,
         layers,
-        arrival,
+        arrives,
         p,
         q,
         table,
@@ -81,57 +124,33 @@ pub fn refused(r: u8) -> Planned
     }
 }
 
-// Planning past refusals 1 to 10, by the net's tables: the plan that 01 chooses, judged as every plan is, and the floor g × V(k); or 11, or 12.
+// Planning past refusals 1 to 10, the stage of each edge being known: the plan that 01 chooses, judged as every plan is, and the floor g × V(k); or 11, or 12.
 fn plan_by(
-    net: &[u8],
-    heads: &[usize],
+    words: &[u32],
     layers: usize,
     nodes: usize,
-    stages: usize,
+    count: usize,
     stage: &[usize],
     below: &[usize],
-    delay: &[u64],
-    costs: &[u64],
     p: u64,
     q: u64,
     table: &mut [i64],
     plan: &mut [u8],
 ) -> Planned
     requires { ⌜
-        Admitted (now net) (now heads) nodes layers stages p q (length (now plan)) × Tables (netOf (now net)) (now stage) (now below) (now delay) (now costs)
+        Admitted (now words) nodes layers count p q (length (now plan)) × Staged (netIn (now words)) (now stage) (now below)
         ⌝ }
-    ensures { λ r. ⌜ PlansNet (now (net .entry)) p q (now (table .entry)) (now (table .exit)) (now (plan .entry)) (now (plan .exit)) r ⌝ }
+    ensures { λ r. ⌜
+        ((bs : List ℕ) → read bs ≡ accept (netIn (now (words .entry)))
+        → PlansNet bs p q (now (table .entry)) (now (table .exit)) (now (plan .entry)) (now (plan .exit)) r)
+        ⌝ }
 {
-    let outcome = plan_stages(
-        net,
-        heads,
-        layers,
-        nodes,
-        stages,
-        stage,
-        below,
-        delay,
-        costs,
-        p,
-        q,
-        table,
-        plan,
-    );
+    let outcome = plan_stages(words, layers, nodes, count, stage, below, p, q, table, plan);
     match outcome {
         Outcome::Late => refused(11),
         Outcome::Short => refused(12),
         Outcome::Found { k, g, value } => {
-            let answer = judged_by(
-                net,
-                heads,
-                layers,
-                nodes,
-                stage,
-                below,
-                delay,
-                costs,
-                &plan[..stages],
-            );
+            let answer = judged_by(words, nodes, stage, below, &plan[..count]);
             Planned {
                 refusal: 0,
                 cost: answer.cost,
@@ -143,45 +162,33 @@ fn plan_by(
     }
 }
 
-// Planning past refusals 1 to 10: the net's tables are made once, for the search and for judging the plan found.
+// Planning past refusals 1 to 10, for a net of `count` stages.
 pub fn plan_net(
-    net: &[u8],
-    heads: &[usize],
+    words: &[u32],
     layers: usize,
     nodes: usize,
-    stages: usize,
+    count: usize,
     p: u64,
     q: u64,
     table: &mut [i64],
     plan: &mut [u8],
 ) -> Planned
-    requires { ⌜ Admitted (now net) (now heads) nodes layers stages p q (length (now plan)) ⌝ }
-    ensures { λ r. ⌜ PlansNet (now (net .entry)) p q (now (table .entry)) (now (table .exit)) (now (plan .entry)) (now (plan .exit)) r ⌝ }
+    requires { ⌜ Admitted (now words) nodes layers count p q (length (now plan)) ⌝ }
+    ensures { λ r. ⌜
+        ((bs : List ℕ) → read bs ≡ accept (netIn (now (words .entry)))
+        → PlansNet bs p q (now (table .entry)) (now (table .exit)) (now (plan .entry)) (now (plan .exit)) r)
+        ⌝ }
 {
     let mut stage = [0usize; 256];
     let mut below = [0usize; 256];
-    let mut delay = [0u64; 4096];
-    let mut costs = [0u64; 1024];
-    tables(
-        net,
-        heads,
-        layers,
-        nodes,
-        &mut stage,
-        &mut below,
-        &mut delay,
-        &mut costs,
-    );
+    stages(words, nodes, &mut stage, &mut below);
     plan_by(
-        net,
-        heads,
+        words,
         layers,
         nodes,
-        stages,
+        count,
         &stage,
         &below,
-        &delay,
-        &costs,
         p,
         q,
         table,

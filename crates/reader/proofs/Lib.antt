@@ -1,3 +1,4 @@
+pub mod Stored
 pub mod Steps
 pub mod Loop
 pub mod Whole

@@ -2,25 +2,30 @@
 use mathlib.Core.Path.{_≡_, refl, ap, sym, _∙_, subst}
 use mathlib.Core.Bool.{Bool, true, false, _&&_, _||_, not}
 use mathlib.Core.Logic.{_⊎_, inl, inr}
-use mathlib.Core.List.{List, [], _∷_, _++_, map}
+use mathlib.Core.List.{List, [], _∷_, _++_}
 use Prim.Native.Nat.{ℕ, zero, suc, _+_, _*_, _-_, _<_, _≤_}
-use native.Mathlib.Nat.{add-zero, mul-zero}
+use native.Mathlib.Nat.{add-zero}
 use native.Mathlib.Numerals.{add-one}
 use native.Mathlib.Omega.{arith}
 use lib.Dec.{leb, ltb, eqb}
-use lib.ListN.{length, getD, set, replicate, length-append, length-set, length-replicate, getD-replicate}
-use lib.Seq.{getD-set-same, getD-set-other}
-use borrow.Author.Tests.{lt-ltb, le-ltb, le-leb, lt-leb, eq-eqb, ne-eqb, leb-true, ltb-true}
+use lib.ListN.{length, getD, set, replicate, length-set, length-replicate, getD-replicate}
+use borrow.Author.Tests.{le-ltb, le-leb, lt-leb, eq-eqb, ne-eqb, leb-true, ltb-true}
 use Rattle.laws.specs.Basic.{bit, all, from}
-use Rattle.laws.specs.Booleans.{and-left, and-right, same-or, bit-le}
+use Rattle.laws.specs.Booleans.{and-left, same-or, bit-le}
 use Rattle.laws.specs.Lists.{added, keep-more, keep-le, length-more, last-is, others-are, map-same, from-mem}
 use Rattle.rules.specs.Tree.{Node, isSink, isBuffer, node, noNode}
-use Rattle.rules.specs.Bytes.{Field, maxNodes, maxChildren, dueNode, nodeAt, isNode, fieldAt, next}
-use Rattle.rules.specs.Reading.{Answer, accept, refuse, _>>=_, _>>_, _unless_, field, children, buffers, isParent, hasRoom, nodeField, nodesFrom, isWhole}
+use Rattle.rules.specs.Bytes.{Field, maxLayers, maxNodes, maxChildren, dueNode, nodeAt, isNode, next}
+use Rattle.rules.specs.Reading.{Answer, accept, refuse, _>>=_, field, children, buffers, isParent, hasRoom, nodeField, nodesFrom, isWhole}
 use Rattle.facts.specs.Answers.{not-refused, accept-injective, then-accepted, unless-accepted, then-same, turned-accepted, turned-refused}
-use Rattle.reader.specs.Nodes.{roomFor, parentFor, wholeFor, stepField, stepAt, recordAt, takenAt, Taken, Counted, counted, places, HeadOf, Heads, Kids, NodesRead}
+use Rattle.reader.specs.Nodes.{roomFor, parentFor, wholeFor, stepField, stepAt, takenAt, Taken, stepTaken, counted, places}
+use Rattle.reader.specs.Nodes.{Put, Stored, Kids, StepRead, NodesRead}
 use Rattle.reader.specs.declared.Nodes.the-variants as nodes
+use Rattle.reader.specs.declared.Step.{Step}
 use Rattle.fields.proofs.Laws.{field-inside}
+use Rattle.words.specs.Words.{rowFor, Rows}
+use Rattle.words.specs.Puts.{recordAt}
+use Rattle.reader.proofs.Stored.{stored-none, stored-more, rows-kept}
+use Rattle.reader.proofs.Steps.{buffer-tag}
 
 -- one node more
 children-more : (ns : List Node) (n : Node) (j : ℕ) → children (ns ++ (n ∷ [])) j ≡ children ns j + bit (eqb (n .parent) j)
@@ -58,13 +63,15 @@ unfolding places children node
 places-none zero = refl
 places-none (suc j) = refl
 
-places-more : (ns : List Node) (n : Node) (j : ℕ) → places (ns ++ (n ∷ [])) j ≡ (places ns j + bit (eqb (n .parent) j)) + (maxChildren * bit (isSink (n .kind))) * bit (eqb (length ns + 1) j)
+places-more : (ns : List Node) (n : Node) (j : ℕ) → places (ns ++ (n ∷ [])) j
+    ≡ (places ns j + bit (eqb (n .parent) j)) + (maxChildren * bit (isSink (n .kind))) * bit (eqb (length ns + 1) j)
 unfolding places
 places-more ns n j = go (same-or (length ns + 1) j)
   where
     go : (j ≡ length ns + 1) ⊎ (j ≡ length ns + 1 → ⊥)
         → children (ns ++ (n ∷ [])) j + maxChildren * bit (isSink (node (ns ++ (n ∷ [])) j .kind))
-        ≡ ((children ns j + maxChildren * bit (isSink (node ns j .kind))) + bit (eqb (n .parent) j)) + (maxChildren * bit (isSink (n .kind))) * bit (eqb (length ns + 1) j)
+        ≡ ((children ns j + maxChildren * bit (isSink (node ns j .kind))) + bit (eqb (n .parent) j)) +
+        (maxChildren * bit (isSink (n .kind))) * bit (eqb (length ns + 1) j)
     go (inl e) = rw (e, node-last ns n, node-beyond ns, eq-eqb (length ns + 1) (length ns + 1) refl) (omega (arith, children-more ns n (length ns + 1)))
     go (inr e) = rw (node-other ns n j e, ne-eqb (length ns + 1) j (λ q. e (sym q))) (omega (arith, children-more ns n j))
 
@@ -77,12 +84,21 @@ module _ {ns : List Node} {kids : List ℕ} (K : Kids ns kids) (n : Node) (few :
 
   kids-small : getD (set kids (n .parent) (getD kids (n .parent) 0 + 1)) (length ns + 1) 0 ≤ 256
   unfolding places
-  kids-small = omega (arith, parented-at (length ns + 1), K .each (length ns + 1) (omega arith), children-le ns (length ns + 1), bit-le (eqb (n .parent) (length ns + 1)), ap (λ (m : Node). bit (isSink (m .kind))) (node-beyond ns))
+  kids-small = omega (
+    arith,
+    parented-at (length ns + 1),
+    K .each (length ns + 1) (omega arith),
+    children-le ns (length ns + 1),
+    bit-le (eqb (n .parent) (length ns + 1)),
+    ap (λ (m : Node). bit (isSink (m .kind))) (node-beyond ns),
+  )
 
-  kids-more : Kids (ns ++ (n ∷ [])) (set (set kids (n .parent) (getD kids (n .parent) 0 + 1)) (length ns + 1) (getD (set kids (n .parent) (getD kids (n .parent) 0 + 1)) (length ns + 1) 0 + maxChildren * bit (isSink (n .kind))))
+  kids-more : Kids (ns ++ (n ∷ [])) (set (set kids (n .parent) (getD kids (n .parent) 0 + 1)) (length ns + 1)
+      (getD (set kids (n .parent) (getD kids (n .parent) 0 + 1)) (length ns + 1) 0 + maxChildren * bit (isSink (n .kind))))
   kids-more = record {
     each = λ j h.
-        added (set kids (n .parent) (getD kids (n .parent) 0 + 1)) (length ns + 1) j (maxChildren * bit (isSink (n .kind))) (omega (arith, length-set kids (n .parent) (getD kids (n .parent) 0 + 1))) ∙
+        added (set kids (n .parent) (getD kids (n .parent) 0 + 1)) (length ns + 1) j (maxChildren * bit (isSink (n .kind)))
+        (omega (arith, length-set kids (n .parent) (getD kids (n .parent) 0 + 1))) ∙
         omega (arith, parented-at j, K .each j h, places-more ns n j);
   }
 
@@ -94,6 +110,10 @@ open-or-full false c = ap (λ (x : ℕ). ltb x 2) (add-zero c)
 some-or-sink : (s : Bool) (c : ℕ) → leb 1 (c + maxChildren * bit s) ≡ s || leb 1 c
 some-or-sink true c = le-leb 1 (c + 2 * 1) (omega arith)
 some-or-sink false c = ap (leb 1) (add-zero c)
+
+room-same : (bs : List ℕ) (L : ℕ) (ns : List Node) (f : Field) → roomFor (length ns) (buffers ns) (f .tag) ≡ hasRoom ns (nodeAt bs L f)
+unfolding roomFor hasRoom nodeAt
+room-same bs L ns f = rw (buffer-tag bs (f .tag) (f .start + 4 + 4 * L))
 
 module _ {ns : List Node} {kids : List ℕ} (K : Kids ns kids) (few : length ns ≤ maxNodes) where
   parent-same : (p : ℕ) → parentFor (length ns) kids p ≡ isParent ns p
@@ -108,8 +128,8 @@ module _ {ns : List Node} {kids : List ℕ} (K : Kids ns kids) (few : length ns 
           simp e (ap (λ (x : ℕ). ltb x maxChildren) (K .each p (omega arith)) ∙ open-or-full (isSink (node ns p .kind)) (children ns p))
 
   step-same : (bs : List ℕ) (L i : ℕ) → stepField bs L (length ns) (buffers ns) kids i ≡ nodeField bs L ns i
-  unfolding stepField nodeField roomFor hasRoom
-  step-same bs L i = then-same (field (dueNode L) bs i) _ _ (λ f. simp parent-same)
+  unfolding stepField nodeField
+  step-same bs L i = then-same (field (dueNode L) bs i) _ _ (λ f. simp (room-same bs L ns f, parent-same))
 
   pub whole-same : wholeFor (length ns) kids ≡ isWhole ns
   unfolding wholeFor isWhole places
@@ -118,17 +138,19 @@ module _ {ns : List Node} {kids : List ℕ} (K : Kids ns kids) (few : length ns 
       (λ i m. ap (leb 1) (K .each i (omega (arith, from-mem 0 (length ns + 1) i m))) ∙ some-or-sink (isSink (node ns i .kind)) (children ns i)))
 
 -- the nodes so far, and what the definition gives from here on
-pub record Going (bs : List ℕ) (L first : ℕ) (heads kids : List ℕ) (at count bufs : ℕ) : Type 0 where
+pub record Going (bs : List ℕ) (L first : ℕ) (keep : Bool) (old words kids : List ℕ) (at count bufs : ℕ) : Type 0 where
   pub ns : List Node
   pub kids-are : Kids ns kids
-  pub heads-are : Heads bs L ns heads
+  pub stored : Stored L ns keep old words
   pub size : length ns ≡ count
   pub buffered : buffers ns ≡ bufs
   pub same : nodesFrom (maxNodes + 1 - count) bs L ns at ≡ nodesFrom (maxNodes + 1) bs L [] first
   pub inside : at ≤ length bs
   pub few : count ≤ maxNodes
   pub fewer : bufs ≤ count
-  pub heads-long : length heads ≡ 256
+  pub rows : Rows keep words
+  pub same-size : length words ≡ length old
+  pub thin : L ≤ maxLayers
   pub kids-long : length kids ≡ 256
 
 -- one step of the definition
@@ -137,7 +159,8 @@ module _ (bs : List ℕ) (L : ℕ) (ns : List Node) (at : ℕ) where
   unfolding nodesFrom
   nodes-end k h = rw (le-leb _ _ h, nodesFrom)
 
-  nodes-took : (k : ℕ) {f : Field} → at < length bs → nodeField bs L ns at ≡ accept f → nodesFrom (suc k) bs L ns at ≡ nodesFrom k bs L (ns ++ (nodeAt bs L f ∷ [])) (next f)
+  nodes-took : (k : ℕ) {f : Field} → at < length bs → nodeField bs L ns at ≡ accept f
+      → nodesFrom (suc k) bs L ns at ≡ nodesFrom k bs L (ns ++ (nodeAt bs L f ∷ [])) (next f)
   unfolding nodesFrom
   nodes-took k h e = rw (lt-leb _ _ h, e, nodesFrom)
 
@@ -165,30 +188,23 @@ passed bs L ns at {f} e =
     lower {p} c = leb-true _ _ (and-left (leb p (length ns)) _ (and-left (leb p (length ns) && not (isSink (node ns p .kind))) _ c))
 
 -- one turn of the loop: the two counts of kids fit, and the next state
-pub record Turn (bs : List ℕ) (L first : ℕ) (heads kids : List ℕ) (at count bufs : ℕ) (t : Taken) : Type 0 where
+pub record Turn (bs : List ℕ) (L first : ℕ) (keep : Bool) (old words kids : List ℕ) (at count bufs : ℕ) (t : Taken) (next : List ℕ) : Type 0 where
   pub low : t .node .parent ≤ count
   pub room : count ≤ 254
   pub small : getD kids (t .node .parent) 0 ≤ 257
   pub smaller : getD (set kids (t .node .parent) (getD kids (t .node .parent) 0 + 1)) (count + 1) 0 ≤ 256
   pub on : at < t .next
-  pub onward : Going bs L first (set heads (count + 1) at)
-      (set (set kids (t .node .parent) (getD kids (t .node .parent) 0 + 1)) (count + 1) (getD (set kids (t .node .parent) (getD kids (t .node .parent) 0 + 1)) (count + 1) 0 + maxChildren * bit (isSink (t .node .kind))))
+  pub onward : Going bs L first keep old next
+      (set (set kids (t .node .parent) (getD kids (t .node .parent) 0 + 1)) (count + 1)
+      (getD (set kids (t .node .parent) (getD kids (t .node .parent) 0 + 1)) (count + 1) 0 + maxChildren * bit (isSink (t .node .kind))))
       (t .next) (count + 1) (bufs + bit (isBuffer (t .node .kind)))
 
-heads-more : {bs : List ℕ} {L : ℕ} {ns : List Node} {heads : List ℕ} (at : ℕ) {f : Field} → Heads bs L ns heads → length heads ≡ 256 → length ns ≤ 254 → field (dueNode L) bs at ≡ accept f
-    → Heads bs L (ns ++ (nodeAt bs L f ∷ [])) (set heads (length ns + 1) at)
-heads-more {bs} {L} {ns} {heads} at {f} H long few found = record { each = λ j h b. go j h b (same-or (length ns + 1) j) }
-  where
-    go : (j : ℕ) → 1 ≤ j → j ≤ length (ns ++ (nodeAt bs L f ∷ [])) → (j ≡ length ns + 1) ⊎ (j ≡ length ns + 1 → ⊥) → HeadOf bs L (node (ns ++ (nodeAt bs L f ∷ [])) j) (getD (set heads (length ns + 1) at) j 0)
-    go j h b (inl e) =
-        let i = field-inside (dueNode L) bs at found in
-        rw (e, node-last ns (nodeAt bs L f), getD-set-same heads (length ns + 1) at 0 (omega arith)) (record { found = found ∙ ap accept (i .is); is = ap (nodeAt bs L) (i .is) })
-    go j h b (inr e) = rw (node-other ns (nodeAt bs L f) j e, getD-set-other heads (length ns + 1) j at 0 e) (H .each j h (omega (arith, length-more ns (nodeAt bs L f))))
-
-module _ {bs : List ℕ} {L first : ℕ} {heads kids : List ℕ} {at count bufs : ℕ} (g : Going bs L first heads kids at count bufs) where
-  turn : at < length bs → (f : Field) → nodeField bs L (g .ns) at ≡ accept f → Turn bs L first heads kids at (length (g .ns)) (buffers (g .ns)) (takenAt bs L f)
+module _ {bs : List ℕ} {L first : ℕ} {keep : Bool} {old words kids : List ℕ} {at count bufs : ℕ} (g : Going bs L first keep old words kids at count bufs) where
+  turn : at < length bs → (f : Field) → nodeField bs L (g .ns) at ≡ accept f → {after : List ℕ} → length after ≡ length words
+      → Put bs L f words after (rowFor keep (length (g .ns)))
+      → Turn bs L first keep old words kids at (length (g .ns)) (buffers (g .ns)) (takenAt bs L f) after
   unfolding takenAt recordAt nodeAt next places
-  turn h f e =
+  turn h f e long P =
       let ns = g .ns in
       let n = nodeAt bs L f in
       let p = passed bs L ns at e in
@@ -204,68 +220,82 @@ module _ {bs : List ℕ} {L first : ℕ} {heads kids : List ℕ} {at count bufs 
         onward = record {
           ns = ns ++ (n ∷ []);
           kids-are = kids-more (g .kids-are) n few (p .low) (g .kids-long);
-          heads-are = heads-more at (g .heads-are) (g .heads-long) few (p .found);
+          stored = stored-more (g .thin) (g .stored) P;
           size = length-more ns n;
           buffered = buffers-more ns n;
           same = sym (nodes-took bs L ns at (maxNodes + 1 - (length ns + 1)) h e) ∙ (rw k at (g .same));
           inside = i .ends;
           few = omega arith;
           fewer = omega (arith, g .fewer, g .size, g .buffered, bit-le (isBuffer (n .kind)));
-          heads-long = length-set heads (length ns + 1) _ ∙ g .heads-long;
+          rows = rows-kept (g .rows) long;
+          same-size = long ∙ g .same-size;
+          thin = g .thin;
           kids-long = length-set (set kids (n .parent) _) (length ns + 1) _ ∙ (length-set kids (n .parent) _ ∙ g .kids-long);
         };
       }
 
   stepped : stepAt bs L count bufs kids at ≡ (nodeField bs L (g .ns) at >>= λ f. accept (takenAt bs L f))
   unfolding stepAt
-  stepped = rw (← g .size, ← g .buffered) (ap (λ (x : Answer Field). x >>= λ f. accept (takenAt bs L f)) (step-same (g .kids-are) (omega (arith, g .size, g .few)) bs L at))
+  stepped = rw (← g .size, ← g .buffered) (ap (λ (x : Answer Field). x >>= λ f. accept (takenAt bs L f))
+      (step-same (g .kids-are) (omega (arith, g .size, g .few)) bs L at))
 
-  pub going-took : at < length bs → {t : Taken} → accept t ≡ stepAt bs L count bufs kids at → Turn bs L first heads kids at count bufs t
-  going-took h {t} e =
-      let (f, a, q) = turned-accepted (nodeField bs L (g .ns) at) (takenAt bs L) (e ∙ stepped) in
-      rw (← g .size, ← g .buffered, q) (turn h f a)
+  same-step : stepField bs L count bufs kids at ≡ nodeField bs L (g .ns) at
+  same-step = rw (← g .size, ← g .buffered) (step-same (g .kids-are) (omega (arith, g .size, g .few)) bs L at)
+
+  pub going-took : at < length bs → {t : Taken} {r : Step} {after : List ℕ} → StepRead bs L count bufs kids at keep r words after → accept t ≡ stepTaken r
+      → length after ≡ length words
+      → Turn bs L first keep old words kids at count bufs t after
+  going-took h {t} {r} {after} R et long =
+      let (f, a, q) = turned-accepted (nodeField bs L (g .ns) at) (takenAt bs L) (et ∙ R .answer ∙ stepped) in
+      rw (← g .size, ← g .buffered, q) (turn h f a long (subst (λ (k : ℕ). Put bs L f words after (rowFor keep k)) (sym (g .size)) (R .put f (same-step ∙ a))))
 
   one-less : maxNodes + 1 - count ≡ suc (maxNodes - count)
   one-less = omega (arith, g .few)
 
   pub going-no : at < length bs → {r : ℕ} → refuse r ≡ stepAt bs L count bufs kids at → nodesFrom (maxNodes + 1) bs L [] first ≡ refuse r
-  going-no h {r} e = sym (g .same) ∙ rw one-less (nodes-no bs L (g .ns) at (maxNodes - count) h (turned-refused (nodeField bs L (g .ns) at) (takenAt bs L) (e ∙ stepped)))
+  going-no h {r} e = sym (g .same) ∙ rw one-less (nodes-no bs L (g .ns) at (maxNodes - count) h
+      (turned-refused (nodeField bs L (g .ns) at) (takenAt bs L) (e ∙ stepped)))
 
   pub going-end : length bs ≤ at → nodesFrom (maxNodes + 1) bs L [] first ≡ accept (g .ns)
   going-end h = sym (g .same) ∙ rw one-less (nodes-end bs L (g .ns) at (maxNodes - count) h)
 
-pub going-start : (bs : List ℕ) (L first : ℕ) {heads kids : List ℕ} → first ≤ length bs → length heads ≡ 256 → kids ≡ replicate 256 0 → Going bs L first heads kids first 0 0
+pub going-start : (bs : List ℕ) (L first : ℕ) {keep : Bool} {words kids : List ℕ} → first ≤ length bs → Rows keep words → L ≤ maxLayers → kids ≡ replicate 256 0
+    → Going bs L first keep words words kids first 0 0
 unfolding buffers
-going-start bs L first h lh ek = record {
+going-start bs L first {keep} {words} h lh thin ek = record {
   ns = [];
   kids-are = kids-none ek;
-  heads-are = record { each = λ j a b. absurd (omega arith) };
+  stored = stored-none L keep words;
   size = refl;
   buffered = refl;
   same = refl;
   inside = h;
   few = omega arith;
   fewer = omega arith;
-  heads-long = lh;
+  rows = lh;
+  same-size = refl;
+  thin = thin;
   kids-long = ap length ek ∙ length-replicate {A = ℕ} 256 0;
 }
 
 -- the loop's answer
-module _ (bs : List ℕ) (L first : ℕ) (heads kids : List ℕ) where
-  pub nodes-refused : {x r : ℕ} → x ≡ r → nodesFrom (maxNodes + 1) bs L [] first ≡ refuse r → NodesRead bs L first (nodes.Refused x) heads kids
+module _ (bs : List ℕ) (L first : ℕ) (keep : Bool) (old words kids : List ℕ) where
+  pub nodes-refused : {x r : ℕ} → x ≡ r → nodesFrom (maxNodes + 1) bs L [] first ≡ refuse r → NodesRead bs L first keep (nodes.Refused x) old words kids
   nodes-refused e h = record {
     counts = ap refuse e ∙ sym (ap (λ (y : Answer (List Node)). y >>= λ ns. accept (counted ns)) h);
     few = λ ns q. not-refused (sym h ∙ q);
     kids-are = λ ns q. not-refused (sym h ∙ q);
-    heads-are = λ ns q. not-refused (sym h ∙ q);
+    stored = λ ns q. not-refused (sym h ∙ q);
   }
 
-  pub nodes-read : {at count bufs : ℕ} → (g : Going bs L first heads kids at count bufs) → length bs ≤ at → NodesRead bs L first (nodes.Tree count bufs) heads kids
+  pub nodes-read : {at count bufs : ℕ} → (g : Going bs L first keep old words kids at count bufs) → length bs ≤ at
+      → NodesRead bs L first keep (nodes.Tree count bufs) old words kids
   nodes-read g b =
       let h = going-end g b in
       record {
         counts = rw (← g .size, ← g .buffered) (sym (ap (λ (y : Answer (List Node)). y >>= λ ns. accept (counted ns)) h));
-        few = λ ms q. subst (λ (l : List Node). (length l ≤ maxNodes) × (buffers l ≤ maxNodes)) (accept-injective (sym h ∙ q)) (omega (arith, g .size, g .few), omega (arith, g .buffered, g .fewer, g .few));
+        few = λ ms q. subst (λ (l : List Node). (length l ≤ maxNodes) × (buffers l ≤ maxNodes)) (accept-injective (sym h ∙ q))
+            (omega (arith, g .size, g .few), omega (arith, g .buffered, g .fewer, g .few));
         kids-are = λ ms q. subst (λ (l : List Node). Kids l kids) (accept-injective (sym h ∙ q)) (g .kids-are);
-        heads-are = λ ms q. subst (λ (l : List Node). Heads bs L l heads) (accept-injective (sym h ∙ q)) (g .heads-are);
+        stored = λ ms q. subst (λ (l : List Node). Stored L l keep old words) (accept-injective (sym h ∙ q)) (g .stored);
       }

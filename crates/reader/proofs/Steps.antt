@@ -1,54 +1,72 @@
 -- One node field: what the tests of 4, 3 and 5 and the whole step give at the values that the code has in hand.
-use mathlib.Core.Path.{_≡_, refl, ap, sym, _∙_}
-use mathlib.Core.Bool.{Bool, true, false, _&&_, _||_, not}
+use mathlib.Core.Path.{_≡_, refl, ap, sym, _∙_, subst}
+use mathlib.Core.Bool.{Bool, true, false, _&&_}
 use mathlib.Core.List.{List}
 use Prim.Native.Nat.{ℕ, _+_, _*_, _<_, _≤_, _-_}
 use native.Mathlib.Omega.{arith}
 use lib.Dec.{leb, ltb, eqb}
 use lib.ListN.{length, getD}
-use borrow.Author.Tests.{lt-ltb, le-ltb, le-leb, lt-leb, eqb-true}
-use Rattle.laws.specs.Basic.{if_then_else_, bit}
-use Rattle.laws.specs.Booleans.{and-right, bit-one, bit-zero}
+use mathlib.Core.Logic.{_⊎_, inl, inr}
+use borrow.Author.Tests.{lt-ltb, le-ltb, le-leb, lt-leb, eq-eqb, ne-eqb, eqb-true, ltb-true}
+use Rattle.laws.specs.Basic.{if_then_else_}
+use Rattle.laws.specs.Booleans.{and-left, and-right, same-or}
 use Rattle.rules.specs.Tree.{isBuffer}
-use Rattle.rules.specs.Bytes.{Field, maxNodes, maxStages, maxLength, maxChildren, number, kindSize, kindAt, costsAt, nodeAt, isCosts, isKind, isNode, next, dueNode}
+use Rattle.rules.specs.Bytes.{steinerTag, bufferTag, maxNodes, maxStages, maxLength, maxChildren}
+use Rattle.rules.specs.Bytes.{Field, kindSize, kindAt, nodeAt, isKind, isNode, next, dueNode}
 use Rattle.rules.specs.Reading.{Answer, accept, refuse, _>>=_, _>>_, _unless_, field}
-use Rattle.rules.specs.declared.Kind.{Kind}
-use Rattle.reader.specs.declared.Node.{Node}
-use Rattle.reader.specs.Nodes.{recordAt, roomFor, rangesOf, parentFor, stepField, stepAt, takenAt, Taken}
-use Rattle.fields.proofs.Laws.{Inside, field-inside}
+use Rattle.words.specs.declared.Node.{Node}
+use Rattle.words.specs.Words.{rowFor, recordIn}
+use Rattle.words.specs.Puts.{recordAt, NodePut}
+use Rattle.reader.specs.Nodes.{roomFor, rangesOf, parentFor, stepField, stepAt, takenAt, Put, StepRead}
+use Rattle.reader.specs.declared.Step.the-variants as step
+use Rattle.reader.proofs.Stored.{put-node}
+use Rattle.facts.specs.Answers.{not-refused, accept-injective, then-accepted, unless-accepted}
+use Rattle.fields.proofs.Laws.{field-inside}
 
-pub record-is : (bs : List ℕ) (L tag i : ℕ) {p l : ℕ} {k : Kind} → p ≡ number bs i 2 → l ≡ number bs (i + 2) 2 → k ≡ kindAt bs tag (i + 4 + 4 * L)
-    → record { parent = p; len = l; kind = k } ≡ recordAt bs L tag i
-unfolding recordAt
-record-is bs L tag i ep el ek = rw (ep, el, ek)
-
-module _ (count bufs : ℕ) (k : Kind) where
-  pub room-full : maxNodes ≤ count → false ≡ roomFor count bufs k
+-- room for a node of this tag
+module _ (count bufs tag : ℕ) where
+  pub room-full : maxNodes ≤ count → false ≡ roomFor count bufs tag
   unfolding roomFor
   room-full h = simp (le-ltb _ _ h)
 
-  pub room-buffer : {x : ℕ} → count < maxNodes → x ≡ bit (isBuffer k) → x ≡ 1 → ltb bufs 63 ≡ roomFor count bufs k
+  pub room-buffer : count < maxNodes → tag ≡ bufferTag → ltb bufs (maxStages - 1) ≡ roomFor count bufs tag
   unfolding roomFor
-  room-buffer h e o = simp (lt-ltb _ _ h, bit-one (isBuffer k) e o)
+  room-buffer h e = simp (lt-ltb _ _ h, eq-eqb _ _ e)
 
-  pub room-other : {x : ℕ} → count < maxNodes → x ≡ bit (isBuffer k) → (x ≡ 1 → ⊥) → true ≡ roomFor count bufs k
+  pub room-other : count < maxNodes → (tag ≡ bufferTag → ⊥) → true ≡ roomFor count bufs tag
   unfolding roomFor
-  room-other h e o = simp (lt-ltb _ _ h, bit-zero (isBuffer k) e o)
+  room-other h e = simp (lt-ltb _ _ h, ne-eqb _ _ e)
 
-module _ (bs : List ℕ) (L i : ℕ) (r : Node) where
-  pub ranges-length : maxLength < r .len → false ≡ rangesOf bs L i r
+  pub room-count : roomFor count bufs tag ≡ true → count < maxNodes
+  unfolding roomFor
+  room-count e = ltb-true count maxNodes (and-left (ltb count maxNodes) _ e)
+
+-- a buffer is told by its tag
+pub buffer-tag : (bs : List ℕ) (tag i : ℕ) → isBuffer (kindAt bs tag i) ≡ eqb tag bufferTag
+unfolding kindAt
+buffer-tag bs tag i = go (same-or steinerTag tag) (same-or bufferTag tag)
+  where
+    go : (tag ≡ steinerTag) ⊎ (tag ≡ steinerTag → ⊥) → (tag ≡ bufferTag) ⊎ (tag ≡ bufferTag → ⊥) → isBuffer (kindAt bs tag i) ≡ eqb tag bufferTag
+    go (inl e) o = rw e refl
+    go (inr n) (inl e) = rw e refl
+    go (inr n) (inr m) = simp (ne-eqb _ _ n, ne-eqb _ _ m)
+
+-- the ranges of a record
+module _ (costs : Bool) (r : Node) where
+  pub ranges-length : maxLength < r .len → false ≡ rangesOf costs r
   unfolding rangesOf
   ranges-length h = simp (lt-leb _ _ h)
 
-  module _ (h : r .len ≤ maxLength) {b : Bool} (e : b ≡ isCosts (costsAt bs L (i + 4))) where
-    pub ranges-costs : b ≡ false → false ≡ rangesOf bs L i r
+  module _ (h : r .len ≤ maxLength) where
+    pub ranges-costs : costs ≡ false → false ≡ rangesOf costs r
     unfolding rangesOf
-    ranges-costs o = simp (le-leb _ _ h, sym e ∙ o)
+    ranges-costs o = simp (le-leb _ _ h, o)
 
-    pub ranges-kind : b ≡ true → isKind (r .kind) ≡ rangesOf bs L i r
+    pub ranges-kind : costs ≡ true → isKind (r .kind) ≡ rangesOf costs r
     unfolding rangesOf
-    ranges-kind o = simp (le-leb _ _ h, sym e ∙ o)
+    ranges-kind o = simp (le-leb _ _ h, o)
 
+-- the places for children
 module _ (count : ℕ) (kids : List ℕ) (p : ℕ) where
   pub parent-higher : count < p → false ≡ parentFor count kids p
   unfolding parentFor
@@ -66,35 +84,70 @@ node-ends bs L i {f} e =
     omega (arith, h .ends, eqb-true (f .size) (4 + 4 * L + kindSize (f .tag)) (and-right (leb 3 (f .tag) && leb (f .tag) 5) _ (h .allowed)))
 
 -- a step by its tests
-tests : {A B : Type 0} (a b d : Bool) (g : A) (h : A → B)
-    → (_>>_ (4 unless a) (_>>_ (3 unless b) (_>>_ (5 unless d) (accept g))) >>= λ x. accept (h x)) ≡ (if a then (if b then (if d then accept (h g) else refuse 5) else refuse 3) else refuse 4)
-tests true true true g h = refl
-tests true true false g h = refl
-tests true false d g h = refl
-tests false b d g h = refl
+tests : {A B : Type 0} (b d : Bool) (g : A) (h : A → B)
+    → (_>>_ (3 unless b) (_>>_ (5 unless d) (accept g)) >>= λ x. accept (h x)) ≡ (if b then (if d then accept (h g) else refuse 5) else refuse 3)
+tests true true g h = refl
+tests true false g h = refl
+tests false d g h = refl
 
-module _ (bs : List ℕ) (L count bufs : ℕ) (kids : List ℕ) (i : ℕ) where
-  pub step-none : {r : ℕ} → field (dueNode L) bs i ≡ refuse r → stepAt bs L count bufs kids i ≡ refuse r
+ranges-pass : (costs : Bool) (r : Node) → rangesOf costs r ≡ true → costs ≡ true
+unfolding rangesOf
+ranges-pass costs r e = and-right (leb (r .len) maxLength) costs (and-left (leb (r .len) maxLength && costs) (isKind (r .kind)) e)
+
+-- a step that is accepted takes the field that stands there
+field-taken : (bs : List ℕ) (L count bufs : ℕ) (kids : List ℕ) (i : ℕ) {f g : Field} → field (dueNode L) bs i ≡ accept f
+    → stepField bs L count bufs kids i ≡ accept g → f ≡ g
+unfolding stepField
+field-taken bs L count bufs kids i e o =
+    let (k, p, o1) = then-accepted (field (dueNode L) bs i) _ o in
+    let (t1, o2) = unless-accepted 4 (roomFor count bufs (k .tag)) _ o1 in
+    let (t2, o3) = unless-accepted 3 (isNode (nodeAt bs L k)) _ o2 in
+    let (t3, o4) = unless-accepted 5 (parentFor count kids (nodeAt bs L k .parent)) _ o3 in
+    accept-injective (sym e ∙ p) ∙ accept-injective o4
+
+module _ (bs : List ℕ) (L count bufs : ℕ) (kids : List ℕ) (i : ℕ) (keep : Bool) (old new : List ℕ) where
+  step-no : {x r : ℕ} → x ≡ r → stepAt bs L count bufs kids i ≡ refuse r → StepRead bs L count bufs kids i keep (step.Refused x) old new
+  unfolding stepAt
+  step-no e h = record {
+    answer = ap refuse e ∙ sym h;
+    put = λ f o. not-refused (sym h ∙ ap (λ (y : Answer Field). y >>= λ f. accept (takenAt bs L f)) o);
+  }
+
+  pub step-none : {x r : ℕ} → x ≡ r → field (dueNode L) bs i ≡ refuse r → StepRead bs L count bufs kids i keep (step.Refused x) old new
   unfolding stepAt stepField
-  step-none e = simp e
+  step-none q e = step-no q (simp e)
 
-  -- n, a, b and d are the record and the outcomes of the three tests, as the code has them
-  module _ {f : Field} {n : Node} {a b d : Bool} (e : field (dueNode L) bs i ≡ accept f) (en : n ≡ recordAt bs L (f .tag) (f .start))
-      (ea : a ≡ roomFor count bufs (n .kind)) (eb : b ≡ rangesOf bs L (f .start) n) (ed : d ≡ parentFor count kids (n .parent)) where
-    step-tests : stepAt bs L count bufs kids i ≡ (if a then (if b then (if d then accept (record { node = n; next = f .start + f .size }) else refuse 5) else refuse 3) else refuse 4)
-    unfolding stepAt stepField nodeAt isNode recordAt rangesOf takenAt next
-    step-tests =
-        rw (ea, eb, ed, en) (simp e
-        (tests (roomFor count bufs (nodeAt bs L f .kind)) (isNode (nodeAt bs L f)) (parentFor count kids (nodeAt bs L f .parent)) f (takenAt bs L)))
+  module _ {f : Field} (e : field (dueNode L) bs i ≡ accept f) where
+    pub step-4 : roomFor count bufs (f .tag) ≡ false → StepRead bs L count bufs kids i keep (step.Refused 4) old new
+    unfolding stepAt stepField
+    step-4 h = step-no refl (simp (e, h))
 
-    pub step-4 : a ≡ false → stepAt bs L count bufs kids i ≡ refuse 4
-    step-4 h = step-tests ∙ simp h
+    -- n, b and d are the record and the outcomes of the last two tests, as the code has them
+    module _ (room : roomFor count bufs (f .tag) ≡ true) {row : ℕ} {n : Node} {b q : Bool} (er : row ≡ rowFor keep count)
+        (N : NodePut bs L (f .tag) (f .start) old new row q) (en : n ≡ recordIn new row) (eb : b ≡ rangesOf q n) where
+      step-tests : (d : Bool) → d ≡ parentFor count kids (n .parent)
+          → stepAt bs L count bufs kids i ≡ (if b then (if d then accept (record { node = n; next = f .start + f .size }) else refuse 5) else refuse 3)
+      unfolding stepAt stepField nodeAt isNode recordAt rangesOf takenAt next
+      step-tests d ed =
+          rw (ed, eb, N .answer, en, N .is) (simp (e, room)
+          (tests (isNode (nodeAt bs L f)) (parentFor count kids (nodeAt bs L f .parent)) f (takenAt bs L)))
 
-    pub step-3 : a ≡ true → b ≡ false → stepAt bs L count bufs kids i ≡ refuse 3
-    step-3 h k = step-tests ∙ simp (h, k)
+      pub step-3 : b ≡ false → StepRead bs L count bufs kids i keep (step.Refused 3) old new
+      step-3 h = step-no refl (step-tests (parentFor count kids (n .parent)) refl ∙ simp h)
 
-    pub step-5 : a ≡ true → b ≡ true → d ≡ false → stepAt bs L count bufs kids i ≡ refuse 5
-    step-5 h k l = step-tests ∙ simp (h, k, l)
+      module _ {d : Bool} (ed : d ≡ parentFor count kids (n .parent)) (h : b ≡ true) where
+        pub step-5 : d ≡ false → StepRead bs L count bufs kids i keep (step.Refused 5) old new
+        step-5 l = step-no refl (step-tests d ed ∙ simp (h, l))
 
-    pub step-took : a ≡ true → b ≡ true → d ≡ true → stepAt bs L count bufs kids i ≡ accept (record { node = n; next = f .start + f .size })
-    step-took h k l = step-tests ∙ simp (h, k, l)
+        step-took : d ≡ true → stepAt bs L count bufs kids i ≡ accept (record { node = n; next = f .start + f .size })
+        step-took l = step-tests d ed ∙ simp (h, l)
+
+        -- the node is in its row
+        pub step-put : d ≡ true → StepRead bs L count bufs kids i keep (step.Node n (f .start + f .size)) old new
+        unfolding stepAt
+        step-put l = record {
+          answer = sym (step-took l);
+          put = λ g o. subst (λ (y : Field). Put bs L y old new (rowFor keep count)) (field-taken bs L count bufs kids i e o)
+              (subst (λ (j : ℕ). Put bs L f old new j) er
+              (put-node (subst (λ (y : Bool). NodePut bs L (f .tag) (f .start) old new row y) (ranges-pass q n (sym eb ∙ h)) N)));
+        }

@@ -1,41 +1,25 @@
 // Reading a net (01, Reading): node records one after the other, the tree that they make, the whole net.
 use fields::Due;
 use fields::Found;
-use fields::costs_in_range;
-use fields::driver_in_range;
 use fields::field_at;
 use fields::found_refusal;
-use fields::kind_at;
 use fields::kind_in_range;
-use fields::layers_in_range;
-use fields::number;
 use rules::Kind;
+use words::Node;
+use words::node_in;
+use words::put_count;
+use words::put_driver;
+use words::put_layers;
+use words::put_node;
 ghost use mathlib.Core.Path.{_≡_};
-ghost use Prim.Native.Nat.{ℕ, _+_, _*_, _≤_};
+ghost use Prim.Native.Nat.{_*_, _≤_, _<_};
 ghost use lib.ListN.{length, replicate};
 ghost use Rattle.laws.specs.Basic.{bit};
 ghost use Rattle.rules.specs.Tree.{isSink, isBuffer};
-ghost use Rattle.rules.specs.Bytes.{maxLayers, maxNodes, maxChildren, kindSize};
-ghost use Rattle.reader.specs.Nodes.{recordAt, roomFor, rangesOf, parentFor, wholeFor, stepAt, stepTaken, stepRefusal, nodesRefusal, NodesRead, TreeRead};
-ghost use Rattle.reader.specs.Net.{NetRead};
-
-// A node record: its parent, the length of the edge to it, its kind. Its costs stay in the bytes.
-pub struct Node {
-    pub parent: usize,
-    pub len: u64,
-    pub kind: Kind,
-}
-
-// The node record of this tag whose payload starts at `start`.
-pub fn node_of(net: &[u8], tag: u64, start: usize, layers: usize) -> Node
-    requires { ⌜ (layers ≤ maxLayers) × (start + 4 + 4 * layers + kindSize tag ≤ length (now net)) ⌝ }
-    ensures { λ r. ⌜ r ≡ recordAt (now (net .entry)) layers tag start ⌝ }
-{
-    let parent = number(net, start, 2) as usize;
-    let len = number(net, start + 2, 2);
-    let kind = kind_at(net, tag, start + 4 + 4 * layers);
-    Node { parent, len, kind }
-}
+ghost use Rattle.rules.specs.Bytes.{maxLayers, maxNodes, maxChildren};
+ghost use Rattle.words.specs.Words.{rowFor, Rows};
+ghost use Rattle.reader.specs.Nodes.{roomFor, rangesOf, parentFor, wholeFor, stepRefusal, nodesRefusal, StepRead, NodesRead, TreeRead};
+ghost use Rattle.reader.specs.Net.{RestRead, NetRead};
 
 // 1 for a buffer, else 0.
 pub fn buffer_bit(kind: Kind) -> usize
@@ -73,30 +57,29 @@ fn sink_places(kind: Kind) -> u16
     }
 }
 
-// Whether there is room for one more node of this kind (refusal 4).
-fn has_room(count: usize, buffers: usize, kind: Kind) -> bool
-    ensures { λ r. ⌜ r ≡ roomFor count buffers kind ⌝ }
+// Whether there is room for one more node, of this tag (refusal 4).
+fn has_room(count: usize, buffers: usize, tag: u32) -> bool
+    ensures { λ r. ⌜ r ≡ roomFor count buffers tag ⌝ }
 {
     if rules::MAX_NODES <= count {
         return false;
     }
-    if buffer_bit(kind) == 1 {
+    if tag == 4 {
         return buffers < rules::MAX_STAGES - 1;
     }
     true
 }
 
-// Whether the numbers of the node record that starts at `start` are in their ranges (refusal 3).
-fn in_ranges(net: &[u8], node: Node, start: usize, layers: usize) -> bool
-    requires { ⌜ (layers ≤ maxLayers) × (start + 4 + 4 * layers ≤ length (now net)) ⌝ }
-    ensures { λ r. ⌜ r ≡ rangesOf (now (net .entry)) layers start node ⌝ }
+// Whether the numbers of a node are in their ranges, given whether its costs are (refusal 3).
+fn in_ranges(node: Node, costs: bool) -> bool
+    ensures { λ r. ⌜ r ≡ rangesOf costs node ⌝ }
 {
     let len = node.len;
     let kind = node.kind;
     if rules::MAX_LENGTH < len {
         return false;
     }
-    if !costs_in_range(net, start + 4, layers) {
+    if !costs {
         return false;
     }
     kind_in_range(kind)
@@ -129,28 +112,50 @@ fn step_refusal(step: Step) -> u8
     }
 }
 
-// The node field that is due at `at`, after `count` nodes with `buffers` buffers among them: the field's own faults, then 4, 3, 5.
-fn node_at(net: &[u8], at: usize, layers: usize, count: usize, buffers: usize, kids: &[u16]) -> Step
-    requires { ⌜ (layers ≤ maxLayers) × (at ≤ length (now net)) × (count ≤ maxNodes) × (length (now kids) ≡ 256) ⌝ }
-    ensures { λ r. ⌜ stepTaken r ≡ stepAt (now (net .entry)) layers count buffers (now (kids .entry)) at ⌝ }
+// The row for the node after `count` nodes: its own where the net is kept, else always row 1.
+fn row_for(keep: bool, count: usize) -> usize
+    requires { ⌜ count < maxNodes ⌝ }
+    ensures { λ r. ⌜ r ≡ rowFor keep count ⌝ }
+{
+    if keep {
+        return count + 1;
+    }
+    1
+}
+
+// The node field that is due at `at`, after `count` nodes with `buffers` buffers among them, into its row: the field's own faults, then 4, 3, 5.
+fn node_at(
+    net: &[u8],
+    at: usize,
+    layers: usize,
+    count: usize,
+    buffers: usize,
+    kids: &[u16],
+    keep: bool,
+    words: &mut [u32],
+) -> Step
+    requires { ⌜
+        (layers ≤ maxLayers) × (at ≤ length (now net)) × (length (now kids) ≡ 256) × Rows keep (now words)
+        ⌝ }
+    ensures { λ r. ⌜
+        StepRead (now (net .entry)) layers count buffers (now (kids .entry)) at keep r (now (words .entry)) (now (words .exit))
+        ⌝ }
 {
     let found = field_at(net, at, Due::Node, layers);
     let Found::Field { tag, start, size } = found else {
         return Step::Refused(found_refusal(found));
     };
-    let node = node_of(net, tag, start, layers);
-    let parent = node.parent;
-    let kind = node.kind;
-    let room = has_room(count, buffers, kind);
-    let ranged = in_ranges(net, node, start, layers);
-    let linked = may_have_child(kids, count, parent);
-    if !room {
+    if !has_room(count, buffers, tag) {
         return Step::Refused(4);
     }
-    if !ranged {
+    let row = row_for(keep, count);
+    let costs = put_node(net, tag, start, layers, row, words);
+    let node = node_in(words, row);
+    let parent = node.parent;
+    if !in_ranges(node, costs) {
         return Step::Refused(3);
     }
-    if !linked {
+    if !may_have_child(kids, count, parent) {
         return Step::Refused(5);
     }
     Step::Node {
@@ -178,24 +183,25 @@ fn nodes_refusal(nodes: Nodes) -> u8
     }
 }
 
-// The nodes from `first` to the end. heads[j] becomes the place of node j's field, kids[j] counts its children, plus two for a sink.
+// The nodes from `first` to the end. Where the net is kept, row j becomes node j; kids[j] counts its children, plus two for a sink.
 fn nodes_from(
     net: &[u8],
     first: usize,
     layers: usize,
-    heads: &mut [usize],
+    keep: bool,
+    words: &mut [u32],
     kids: &mut [u16],
 ) -> Nodes
     requires { ⌜
-        (layers ≤ maxLayers) × (first ≤ length (now net)) × (length (now heads) ≡ 256) × (now kids ≡ replicate 256 0)
+        (layers ≤ maxLayers) × (first ≤ length (now net)) × Rows keep (now words) × (now kids ≡ replicate 256 0)
         ⌝ }
-    ensures { λ r. ⌜ NodesRead (now (net .entry)) layers first r (now (heads .exit)) (now (kids .exit)) ⌝ }
+    ensures { λ r. ⌜ NodesRead (now (net .entry)) layers first keep r (now (words .entry)) (now (words .exit)) (now (kids .exit)) ⌝ }
 {
     let mut at = first;
     let mut count: usize = 0;
     let mut buffers: usize = 0;
     while at < net.len() {
-        let step = node_at(net, at, layers, count, buffers, kids);
+        let step = node_at(net, at, layers, count, buffers, kids, keep, words);
         let Step::Node { node, next } = step else {
             return Nodes::Refused(step_refusal(step));
         };
@@ -204,7 +210,6 @@ fn nodes_from(
         kids[parent] += 1;
         count += 1;
         kids[count] += sink_places(kind);
-        heads[count] = at;
         buffers += buffer_bit(kind);
         at = next;
     }
@@ -227,12 +232,12 @@ fn all_have_children(kids: &[u16], count: usize) -> bool
 }
 
 // The nodes from `first` to the end, and the last test.
-fn tree_from(net: &[u8], first: usize, layers: usize, heads: &mut [usize]) -> Nodes
-    requires { ⌜ (layers ≤ maxLayers) × (first ≤ length (now net)) × (length (now heads) ≡ 256) ⌝ }
-    ensures { λ r. ⌜ TreeRead (now (net .entry)) layers first r (now (heads .exit)) ⌝ }
+fn tree_from(net: &[u8], first: usize, layers: usize, keep: bool, words: &mut [u32]) -> Nodes
+    requires { ⌜ (layers ≤ maxLayers) × (first ≤ length (now net)) × Rows keep (now words) ⌝ }
+    ensures { λ r. ⌜ TreeRead (now (net .entry)) layers first keep r (now (words .entry)) (now (words .exit)) ⌝ }
 {
     let mut kids = [0u16; 256];
-    let nodes = nodes_from(net, first, layers, heads, &mut kids);
+    let nodes = nodes_from(net, first, layers, keep, words, &mut kids);
     let Nodes::Tree { count, buffers } = nodes else {
         return nodes;
     };
@@ -252,10 +257,39 @@ pub enum Net {
     Refused(u8),
 }
 
-// The net that the bytes hold: layers, driver, nodes. heads[j] becomes the place of node j's field.
-pub fn read(net: &[u8], heads: &mut [usize]) -> Net
-    requires { ⌜ length (now heads) ≡ 256 ⌝ }
-    ensures { λ r. ⌜ NetRead (now (net .entry)) r (now (heads .exit)) ⌝ }
+// What follows the layers, from `at` on: the driver, then the nodes.
+fn rest_from(net: &[u8], at: usize, layers: usize, keep: bool, words: &mut [u32]) -> Net
+    requires { ⌜ (layers ≤ maxLayers) × (at ≤ length (now net)) × Rows keep (now words) ⌝ }
+    ensures { λ r. ⌜ RestRead (now (net .entry)) layers at keep r (now (words .entry)) (now (words .exit)) ⌝ }
+{
+    let found = field_at(net, at, Due::Driver, 0);
+    let Found::Field {
+        tag: _,
+        start,
+        size,
+    } = found
+    else {
+        return Net::Refused(found_refusal(found));
+    };
+    if !put_driver(net, start, layers, words) {
+        return Net::Refused(3);
+    }
+    let nodes = tree_from(net, start + size, layers, keep, words);
+    let Nodes::Tree { count, buffers } = nodes else {
+        return Net::Refused(nodes_refusal(nodes));
+    };
+    put_count(words, count);
+    Net::Read {
+        nodes: count,
+        stages: buffers + 1,
+        layers,
+    }
+}
+
+// The net that the bytes hold: layers, driver, nodes. Where it is to be kept, the array becomes the net.
+pub fn read(net: &[u8], keep: bool, words: &mut [u32]) -> Net
+    requires { ⌜ Rows keep (now words) ⌝ }
+    ensures { λ r. ⌜ NetRead (now (net .entry)) keep r (now (words .exit)) ⌝ }
 {
     let found = field_at(net, 0, Due::Layers, 0);
     let Found::Field {
@@ -267,28 +301,8 @@ pub fn read(net: &[u8], heads: &mut [usize]) -> Net
         return Net::Refused(found_refusal(found));
     };
     let layers = size / 4;
-    if !layers_in_range(net, start, layers) {
+    if !put_layers(net, start, layers, words) {
         return Net::Refused(3);
     }
-    let found2 = field_at(net, start + size, Due::Driver, 0);
-    let Found::Field {
-        tag: _,
-        start: start2,
-        size: size2,
-    } = found2
-    else {
-        return Net::Refused(found_refusal(found2));
-    };
-    if !driver_in_range(net, start2) {
-        return Net::Refused(3);
-    }
-    let nodes = tree_from(net, start2 + size2, layers, heads);
-    let Nodes::Tree { count, buffers } = nodes else {
-        return Net::Refused(nodes_refusal(nodes));
-    };
-    Net::Read {
-        nodes: count,
-        stages: buffers + 1,
-        layers,
-    }
+    rest_from(net, start + size, layers, keep, words)
 }

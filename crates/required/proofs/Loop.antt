@@ -1,143 +1,163 @@
 -- What the code of required times may rely on at its places, and what a turn of its loop leaves.
-use mathlib.Core.Path.{_≡_, refl, ap, sym, _∙_}
-use mathlib.Core.Bool.{Bool, true, false, _&&_}
+use mathlib.Core.Path.{_≡_, ap, sym, _∙_}
+use mathlib.Core.Bool.{true, false}
 use mathlib.Core.List.{List}
-use Prim.Native.Nat.{ℕ, _+_, _*_, _^_, _≤_, _<_}
+use Prim.Native.Nat.{ℕ, suc, _+_, _^_, _≤_, _<_}
 use native.Mathlib.Omega.{arith}
-use lib.Dec.{eqb}
 use lib.ListN.{length, getD}
 use lib.IntN.{ℤ, pos, _-ℤ_}
 use mir.Syntax.{w64}
 use mir.Val.{SFits}
-use borrow.Author.Tests.{eqb-true, eq-eqb}
 use Rattle.laws.specs.Basic.{minZ}
-use Rattle.laws.specs.Booleans.{and-left, and-right}
-use Rattle.rules.specs.Tree.{Net, at, isRoot, isTerminal, isBuffer, stages, root, drives, stageOf, layerCount, on as layerOn}
+use Rattle.rules.specs.Tree.{Net, at, isRoot, isTerminal, isBuffer, root, drives, stageOf, on}
 use Rattle.rules.specs.Bytes.{maxTime}
 use Rattle.rules.specs.Timing.{terminalTime, required}
-use Rattle.rules.specs.declared.Kind.{Kind}
 use Rattle.rules.specs.declared.Kind.the-variants.{Steiner, Buffer, Sink}
 use Rattle.facts.specs.Accepted.{Accepted}
-use Rattle.facts.specs.Stages.{TerminalOf, climb-root, root-drives, root-is-buffer, drives-below}
+use Rattle.facts.specs.Stages.{TerminalOf, climb-root, root-before, root-drives, root-is-buffer, drives-below}
 use Rattle.facts.specs.Words.{sink-time, buffer-time}
-use Rattle.tree.specs.Held.{Held, netOf, held-accepted}
+use Rattle.fanout.specs.Contracts.{NextDriven}
+use Rattle.words.specs.Words.{netIn}
+use Rattle.words.specs.Held.{held-accepted}
 use Rattle.tree.specs.Staged.{stageBelow}
 use Rattle.delays.specs.Delayed.{delayTo}
 use Rattle.required.specs.Timed.{Timed}
-use Rattle.required.specs.Scan.{Scan, askedBy, scan-start, scan-skip, scan-take, scan-end, asked-is, asked-fits, delay-small}
+use Rattle.required.specs.Links.{drives-low, stage-lower}
+use Rattle.required.specs.Scan.{Scan, scan-start, scan-jump, scan-take, scan-end, asked-is, asked-fits, delay-small}
 
+-- Below a root begins the stage that it drives.
 below-root : (n : Net) (i : ℕ) → isRoot n i ≡ true → stageBelow n i ≡ drives n i
 unfolding stageBelow
 below-root n i e = ap (drives n) (climb-root n i i (omega arith) e)
 
--- how long the tables are
-pub record Sizes (nodes layers : ℕ) (stage below delay : List ℕ) : Type 0 where
+-- How long the tables are.
+pub record Sizes (nodes : ℕ) (below first next delay : List ℕ) : Type 0 where
   pub nodes-in : nodes ≤ 255
-  pub layers-in : layers ≤ 16
-  pub stage-long : length stage ≡ 256
   pub below-long : length below ≡ 256
-  pub delay-long : length delay ≡ 4096
+  pub first-long : nodes < length first
+  pub next-long : nodes < length next
+  pub delay-long : 256 ≤ length delay
 
--- the stage that root i drives, and its layer
-pub record Entered (bs plan : List ℕ) (i t l : ℕ) : Type 0 where
-  pub is : t ≡ drives (netOf bs) i
-  pub inside : t < stages (netOf bs)
-  pub in-plan : t < length plan
-  pub root-is : root (netOf bs) t ≡ i
-  pub layer-is : l ≡ layerOn plan t
-  pub layer-in : l < 16
-  pub layer-low : l < layerCount (netOf bs)
+-- The table has the stage that root i drives, and there are links for it.
+pub record Entered (w : List ℕ) (nodes : ℕ) (below : List ℕ) (i : ℕ) : Type 0 where
+  pub is : getD below i 0 ≡ drives (netIn w) i
+  pub low : getD below i 0 ≤ nodes
 
--- the loop of the stage at node i, before node j
-pub record Going (bs plan : List ℕ) (nodes i t j : ℕ) (r : ℤ) : Type 0 where
-  pub on : i < j
+-- The loop of the stage that node i drives: the terminals before node j have asked r, and j, if it is a node, is one of the stage.
+pub record Going (w plan : List ℕ) (nodes i j : ℕ) (r : ℤ) : Type 0 where
+  pub some : 1 ≤ j
   pub inside : j ≤ nodes + 1
-  pub scan : Scan (netOf bs) plan t j r
+  pub own : j ≤ nodes → stageOf (netIn w) j ≡ drives (netIn w) i
+  pub scan : Scan (netIn w) plan (drives (netIn w) i) j r
 
-module _ {bs heads : List ℕ} {nodes layers : ℕ} {stage below delay plan : List ℕ} (T : Timed bs heads nodes layers stage below delay plan) where
-  A : Accepted (netOf bs)
+module _ {w : List ℕ} {nodes : ℕ} {below first next delay plan : List ℕ} (T : Timed w nodes below first next delay plan) where
+  -- The net was accepted.
+  A : Accepted (netIn w)
   A = held-accepted (T .held)
 
-  pub sizes : Sizes nodes layers stage below delay
+  -- Node j of the code is one of the net.
+  inside : {j : ℕ} → j ≤ nodes → j ≤ length (netIn w .nodes)
+  inside h = omega (arith, T .held .nodes-are)
+
+  -- The tables are as long as the code needs.
+  pub sizes : Sizes nodes below first next delay
   sizes = record {
     nodes-in = omega (arith, A .few-nodes, T .held .nodes-are);
-    layers-in = omega (arith, A .few-layers, T .held .layers-are);
-    stage-long = T .staged .stage-long;
     below-long = T .staged .below-long;
+    first-long = omega (arith, T .linked .firsts);
+    next-long = omega (arith, T .linked .nexts);
     delay-long = T .delayed .long;
   }
 
-  pub entered : {i l : ℕ} → i ≤ nodes → isRoot (netOf bs) i ≡ true → l ≡ getD plan (getD below i 0) 0 → Entered bs plan i (getD below i 0) l
-  entered {i} h e q =
-      let b : i ≤ length (netOf bs .nodes) = omega (arith, T .held .nodes-are) in
-      let s : getD below i 0 ≡ drives (netOf bs) i = T .staged .below-is i b ∙ below-root (netOf bs) i e in
-      let k : getD below i 0 < stages (netOf bs) = omega (arith, drives-below (netOf bs) i b) in
-      let w = T .layered (getD below i 0) k in
-      record {
-        is = s;
-        inside = k;
-        in-plan = omega (arith, T .sized);
-        root-is = ap (root (netOf bs)) s ∙ root-drives (netOf bs) i b e;
-        layer-is = q;
-        layer-in = omega (arith, A .few-layers);
-        layer-low = omega arith;
-      }
+  -- The loop comes to the next node of the stage: the nodes that the link passes over are of other stages.
+  landed : {i k j : ℕ} {r : ℤ} → 1 ≤ k → Scan (netIn w) plan (drives (netIn w) i) k r → NextDriven (T .stage) (nodes + 1) (drives (netIn w) i) k j
+      → Going w plan nodes i j r
+  landed {i} {k} {j} a S N = record {
+    some = omega (arith, N .low);
+    inside = N .most;
+    own = λ b. sym (T .staged .stage-is j (omega (arith, N .low)) (inside b)) ∙ N .driven (omega arith);
+    scan = scan-jump S (λ m u v d. N .passed m u v (T .staged .stage-is m (d .edge .after) (d .edge .inside) ∙ d .edge .stage));
+  }
 
-  module _ {i t l : ℕ} (E : Entered bs plan i t l) (h : i ≤ nodes) where
-    pub going-start : Going bs plan nodes i t (i + 1) (pos maxTime)
-    going-start = record { on = omega arith; inside = omega arith; scan = scan-start A plan t i (E .root-is) }
+  module _ {i : ℕ} (h : i ≤ nodes) (e : isRoot (netIn w) i ≡ true) where
+    -- Root i drives a stage of no higher number.
+    pub entered : Entered w nodes below i
+    entered =
+        let q : getD below i 0 ≡ drives (netIn w) i = T .staged .below-is i (inside h) ∙ below-root (netIn w) i e in
+        record { is = q; low = omega (arith, drives-low (netIn w) i) }
 
-    module _ {j : ℕ} {r : ℤ} (g : Going bs plan nodes i t j r) where
-      pub going-end : nodes < j → r ≡ required (netOf bs) plan (drives (netOf bs) i)
-      going-end b = scan-end A plan (g .scan) (omega (arith, T .held .nodes-are)) (E .inside) ∙ ap (required (netOf bs) plan) (E .is)
+    -- At first: the nodes of the stage have numbers above the stage's.
+    pub going-start : Going w plan nodes i (getD first (getD below i 0) 0) (pos maxTime)
+    going-start = landed (omega arith) (scan-jump (scan-start (netIn w) plan (drives (netIn w) i)) (λ m u v d. early m v d)) link
+      where
+        early : (m : ℕ) → m < suc (drives (netIn w) i) → TerminalOf (netIn w) (drives (netIn w) i) m → ⊥
+        early m v d = omega (arith, stage-lower A m (d .edge .after) (d .edge .inside), d .edge .stage)
+
+        link : NextDriven (T .stage) (nodes + 1) (drives (netIn w) i) (suc (drives (netIn w) i)) (getD first (getD below i 0) 0)
+        link = rw (entered .is) (T .linked .first-is (drives (netIn w) i) (omega (arith, drives-low (netIn w) i)))
+
+    module _ {j : ℕ} {r : ℤ} (g : Going w plan nodes i j r) where
+      -- After the last node the least is the required time of the stage.
+      pub going-end : nodes < j → r ≡ required (netIn w) plan (drives (netIn w) i)
+      going-end b = scan-end (g .scan) A (omega (arith, T .held .nodes-are)) (drives-below (netIn w) i (inside h))
 
       module _ (b : j ≤ nodes) where
-        inside : j ≤ length (netOf bs .nodes)
-        inside = omega (arith, T .held .nodes-are)
+        -- A node of the stage comes after the root.
+        pub after-root : i < j
+        after-root = omega (arith, root-before A j (g .some) (inside b), ap (root (netIn w)) (g .own b), root-drives (netIn w) i (inside h) e)
 
-        after : 1 ≤ j
-        after = omega (arith, g .on)
+        -- The link from j leads to the next node of the stage,
+        link : NextDriven (T .stage) (nodes + 1) (drives (netIn w) i) (suc j) (getD next j 0)
+        link =
+            let q : getD (T .stage) j 0 ≡ drives (netIn w) i = T .staged .stage-is j (g .some) (inside b) ∙ g .own b in
+            rw q at (T .linked .next-is j (g .some) (omega arith))
 
-        terminal : (eqb (getD stage j 0) t && isTerminal (at (netOf bs) j .kind)) ≡ true → TerminalOf (netOf bs) t j
-        terminal e = record {
-          edge = record { after = after; inside = inside; stage = sym (T .staged .stage-is j after inside) ∙ eqb-true (getD stage j 0) t (and-left (eqb (getD stage j 0) t) (isTerminal (at (netOf bs) j .kind)) e) };
-          ends = and-right (eqb (getD stage j 0) t) (isTerminal (at (netOf bs) j .kind)) e;
-        }
+        -- which comes later.
+        pub onward : j < getD next j 0
+        onward = link .low
 
-        pub going-skip : (eqb (getD stage j 0) t && isTerminal (at (netOf bs) j .kind)) ≡ false → Going bs plan nodes i t (j + 1) r
-        going-skip e = record { on = omega (arith, g .on); inside = omega arith; scan = scan-skip A plan (g .scan) other }
+        -- A node that is no terminal asks nothing.
+        pub going-skip : isTerminal (at (netIn w) j .kind) ≡ false → Going w plan nodes i (getD next j 0) r
+        going-skip q = landed (omega arith) (scan-jump (g .scan) other) link
           where
-            other : TerminalOf (netOf bs) t j → ⊥
-            other d =
-                let p : eqb (getD stage j 0) t ≡ true = eq-eqb (getD stage j 0) t (T .staged .stage-is j after inside ∙ d .edge .stage) in
-                let q : (eqb (getD stage j 0) t && isTerminal (at (netOf bs) j .kind)) ≡ true = rw (p, d .ends) in
+            other : (m : ℕ) → j ≤ m → m < suc j → TerminalOf (netIn w) (drives (netIn w) i) m → ⊥
+            other m u v d =
+                let s : m ≡ j = omega arith in
+                let p : isTerminal (at (netIn w) j .kind) ≡ true = rw s at (d .ends) in
                 let z : _≡_ {A = ℕ} 0 1 = cc in omega arith
 
-        module _ (e : (eqb (getD stage j 0) t && isTerminal (at (netOf bs) j .kind)) ≡ true) {z : ℤ} (ez : z ≡ terminalTime (netOf bs) (required (netOf bs) plan) j) where
-          delay-is : getD delay (j * 16 + l) 0 ≡ delayTo (netOf bs) (layerOn plan t) j
-          delay-is = T .delayed .each j l after inside (E .layer-low) ∙ ap (λ (k : ℕ). delayTo (netOf bs) k j) (E .layer-is)
+        module _ (q : isTerminal (at (netIn w) j .kind) ≡ true) {z : ℤ} (ez : z ≡ terminalTime (netIn w) (required (netIn w) plan) j) where
+          -- Node j is a terminal of the stage,
+          terminal : TerminalOf (netIn w) (drives (netIn w) i) j
+          terminal = record { edge = record { after = g .some; inside = inside b; stage = g .own b }; ends = q }
 
-          pub asked-fine : (getD delay (j * 16 + l) 0 < 2 ^ 63) × SFits w64 (z -ℤ pos (getD delay (j * 16 + l) 0))
-          asked-fine = rw delay-is (delay-small A plan (terminal e) ez, asked-fits A plan (terminal e) ez)
+          -- the delay to it stands in the table,
+          delay-is : getD delay j 0 ≡ delayTo (netIn w) (on plan (drives (netIn w) i)) j
+          delay-is = T .delayed .each j (g .some) (inside b) ∙ ap (λ (t : ℕ). delayTo (netIn w) (on plan t) j) (g .own b)
 
-          pub going-take : Going bs plan nodes i t (j + 1) (minZ r (z -ℤ pos (getD delay (j * 16 + l) 0)))
-          going-take = record {
-            on = omega (arith, g .on);
-            inside = omega arith;
-            scan = scan-take A plan (g .scan) (terminal e) (ap (λ (k : ℕ). z -ℤ pos k) delay-is ∙ asked-is A plan (terminal e) ez);
-          }
+          -- the code can take the delay from its time,
+          pub asked-fine : (getD delay j 0 < 2 ^ 63) × SFits w64 (z -ℤ pos (getD delay j 0))
+          asked-fine = rw delay-is (delay-small A plan terminal ez, asked-fits A plan terminal ez)
 
-  -- the required time of a terminal, by its kind
-  module _ (j : ℕ) where
-    pub at-steiner : at (netOf bs) j .kind ≡ Steiner → pos 0 ≡ terminalTime (netOf bs) (required (netOf bs) plan) j
-    at-steiner e = rw (e, terminalTime)
+          -- and what it asks is taken.
+          pub going-take : Going w plan nodes i (getD next j 0) (minZ r (z -ℤ pos (getD delay j 0)))
+          going-take =
+              landed (omega arith) (scan-take (g .scan) terminal (ap (λ (k : ℕ). z -ℤ pos k) delay-is ∙ asked-is A plan terminal ez)) link
 
-    pub at-sink : {c : ℕ} {t : ℤ} → at (netOf bs) j .kind ≡ Sink c t → t ≡ terminalTime (netOf bs) (required (netOf bs) plan) j
-    at-sink e = sym (sink-time (netOf bs) (required (netOf bs) plan) j e)
+-- The required time of a terminal, by its kind.
+module _ (n : Net) (plan : List ℕ) (j : ℕ) where
+  -- No terminal: 0.
+  pub at-steiner : at n j .kind ≡ Steiner → pos 0 ≡ terminalTime n (required n plan) j
+  at-steiner e = rw (e, terminalTime)
 
-    module _ {c r d : ℕ} (e : at (netOf bs) j .kind ≡ Buffer c r d) where
-      pub at-buffer : required (netOf bs) plan (drives (netOf bs) j) ≡ terminalTime (netOf bs) (required (netOf bs) plan) j
-      at-buffer = sym (buffer-time (netOf bs) (required (netOf bs) plan) j (ap isBuffer e))
+  -- A sink's is given.
+  pub at-sink : {c : ℕ} {t : ℤ} → at n j .kind ≡ Sink c t → t ≡ terminalTime n (required n plan) j
+  at-sink e = sym (sink-time n (required n plan) j e)
 
-      pub buffer-root : 1 ≤ j → isRoot (netOf bs) j ≡ true
-      buffer-root h = root-is-buffer (netOf bs) j h ∙ ap isBuffer e
+  -- A buffer's is that of the stage it drives.
+  pub at-buffer : {c r d : ℕ} {t : ℤ} → at n j .kind ≡ Buffer c r d → t ≡ required n plan (drives n j) → t ≡ terminalTime n (required n plan) j
+  at-buffer e q = q ∙ sym (buffer-time n (required n plan) j (ap isBuffer e))
+
+-- A buffer is a root.
+pub buffer-root : (n : Net) (j : ℕ) {c r d : ℕ} → at n j .kind ≡ Buffer c r d → 1 ≤ j → isRoot n j ≡ true
+buffer-root n j e h = root-is-buffer n j h ∙ ap isBuffer e

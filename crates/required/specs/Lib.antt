@@ -1,2 +1,3 @@
 pub mod Timed
+pub mod Links
 pub mod Scan

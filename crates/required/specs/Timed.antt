@@ -1,17 +1,20 @@
--- A net and a plan as the code of required times holds them: bytes, heads, the stage of each edge, the delay to each node on each layer, the plan.
-use mathlib.Core.Path.{_≡_}
+-- A net and a plan as the code of required times holds them: the array of the net, the stage below each node, the nodes of each stage as links, and the delay
+-- to each node under the plan.
 use mathlib.Core.List.{List}
-use Prim.Native.Nat.{ℕ, _<_}
-use lib.ListN.{length}
-use Rattle.rules.specs.Tree.{stages, layerCount, on}
-use Rattle.delays.specs.Delayed.{Delayed}
-use Rattle.tree.specs.Held.{Held, netOf}
+use Prim.Native.Nat.{ℕ, _+_}
+use Rattle.fanout.specs.Contracts.{Linked}
+use Rattle.words.specs.Words.{netIn}
+use Rattle.words.specs.Held.{Held}
 use Rattle.tree.specs.Staged.{Staged}
+use Rattle.tree.specs.Plans.{Fitting}
+use Rattle.delays.specs.Delayed.{PlanDelays}
 
 -- what the code of required times rests on
-pub record Timed (bs heads : List ℕ) (nodes layers : ℕ) (stage below delay plan : List ℕ) : Type 0 where
-  pub held : Held bs heads nodes layers
-  pub staged : Staged (netOf bs) stage below
-  pub delayed : Delayed (netOf bs) delay
-  pub sized : length plan ≡ stages (netOf bs)
-  pub layered : (t : ℕ) → t < stages (netOf bs) → on plan t < layerCount (netOf bs)
+pub record Timed (w : List ℕ) (nodes : ℕ) (below first next delay plan : List ℕ) : Type 0 where
+  pub layers : ℕ
+  pub held : Held w nodes layers
+  pub stage : List ℕ
+  pub staged : Staged (netIn w) stage below
+  pub linked : Linked stage first next (nodes + 1)
+  pub delayed : PlanDelays (netIn w) plan delay
+  pub fits : Fitting (netIn w) plan

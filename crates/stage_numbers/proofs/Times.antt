@@ -1,9 +1,10 @@
--- What a sink asks fits 64 bits, and is compared as it is; one layer more of a row of limits.
+-- What a sink asks fits 64 bits, and is compared as it is; a row of delays starts at a small place; one layer more of a row of limits.
 use mathlib.Core.Path.{_≡_, refl, ap, _∙_}
 use mathlib.Core.Bool.{true, false}
 use mathlib.Core.List.{List}
 use Prim.Native.Nat.{ℕ, _+_, _*_, _≤_, _<_}
 use native.Mathlib.Omega.{arith}
+use native.Mathlib.Nat.{mul-le-mul}
 use lib.IntN.{ℤ, pos, _-ℤ_}
 use lib.ListN.{getD, set}
 use lib.Signed.{leZ}
@@ -15,7 +16,7 @@ use Rattle.laws.specs.Integers.{fits-parts, minus-up, minus-down, pos-view}
 use Rattle.rules.specs.Bytes.{maxLayers}
 use Rattle.facts.specs.Ranges.{TimeInRange}
 use Rattle.facts.specs.Fits.{halfRange}
-use Rattle.delays.specs.Tables.{entry}
+use Rattle.delays.specs.Tables.{entry, Row}
 use Rattle.readoff.specs.RowSets.{RowOf, Setting, next-kept, setting-more}
 use Rattle.stage_numbers.specs.LimitRows.{lowered}
 
@@ -39,10 +40,14 @@ min-first a b e = rw e refl
 pub min-second : (a b : ℤ) → leZ a b ≡ false → b ≡ minZ a b
 min-second a b e = rw e refl
 
+-- Where the row of node j starts in the table of delays: there are few nodes, and few layers.
+pub start-small : {layers : ℕ} {delay : List ℕ} {j : ℕ} → Row layers delay j → layers ≤ maxLayers → j * layers ≤ 4096
+start-small R few = omega (arith, mul-le-mul (R .node-in) few)
+
 -- One layer more: x is the lesser of the limit y that stands there and what the sink asks.
 pub lowered-more : {old limit : List ℤ} (delay : List ℕ) (j : ℕ) (r : ℤ) {t layers l : ℕ} {x y : ℤ} → RowOf old t layers
-    → Setting (pos 0) old limit t layers l (lowered old delay j r t) → l < layers → y ≡ getD limit (t * maxLayers + l) (pos 0)
-    → x ≡ minZ y (r -ℤ pos (entry delay j l)) → Setting (pos 0) old (set limit (t * maxLayers + l) x) t layers (l + 1) (lowered old delay j r t)
+    → Setting (pos 0) old limit t layers l (lowered layers old delay j r t) → l < layers → y ≡ getD limit (t * maxLayers + l) (pos 0)
+    → x ≡ minZ y (r -ℤ pos (entry layers delay j l)) → Setting (pos 0) old (set limit (t * maxLayers + l) x) t layers (l + 1) (lowered layers old delay j r t)
 unfolding lowered
-lowered-more delay j r {l = l} {x = x} R S h e q =
-    setting-more x R S h (q ∙ ap (λ (z : ℤ). minZ z (r -ℤ pos (entry delay j l))) (e ∙ next-kept R S h))
+lowered-more delay j r {layers = layers} {l = l} {x = x} R S h e q =
+    setting-more x R S h (q ∙ ap (λ (z : ℤ). minZ z (r -ℤ pos (entry layers delay j l))) (e ∙ next-kept R S h))

@@ -49,7 +49,8 @@ module _ (n : Net) (t l j : ℕ) (h : 1 ≤ j) where
   apart =
       ap (λ (js : List ℕ). map (sinkLimit n t l) (sinksAmong n t js)) (from-last j h) ∙
       (ap (λ (js : List ℕ). map (sinkLimit n t l) (keep (λ j. isSink (at n j .kind)) js)) (keep-append (λ j. eqb (stageOf n j) t) (from 1 (j - 1)) (j ∷ [])) ∙
-      (ap (map (sinkLimit n t l)) (keep-append (λ j. isSink (at n j .kind)) (keep (λ j. eqb (stageOf n j) t) (from 1 (j - 1))) (keep (λ j. eqb (stageOf n j) t) (j ∷ []))) ∙
+      (ap (map (sinkLimit n t l)) (keep-append (λ j. isSink (at n j .kind)) (keep (λ j. eqb (stageOf n j) t) (from 1 (j - 1)))
+      (keep (λ j. eqb (stageOf n j) t) (j ∷ []))) ∙
       map-append (sinkLimit n t l) (sinksAmong n t (from 1 (j - 1))) (sinksAmong n t (j ∷ []))))
 
   -- A sink of stage t adds its limit.
@@ -63,7 +64,8 @@ module _ (n : Net) (t l j : ℕ) (h : 1 ≤ j) where
   pub limits-skip : (stageOf n j ≡ t → isSink (at n j .kind) ≡ true → ⊥) → limitsTo n t l j ≡ limitsTo n t l (j - 1)
   limits-skip other =
       apart ∙
-      (ap (λ (js : List ℕ). limitsTo n t l (j - 1) ++ map (sinkLimit n t l) js) (none (eqb (stageOf n j) t) (isSink (at n j .kind)) refl refl) ∙ append-nil (limitsTo n t l (j - 1)))
+      (ap (λ (js : List ℕ). limitsTo n t l (j - 1) ++ map (sinkLimit n t l) js) (none (eqb (stageOf n j) t) (isSink (at n j .kind)) refl refl) ∙
+      append-nil (limitsTo n t l (j - 1)))
     where
       none : (a b : Bool) → eqb (stageOf n j) t ≡ a → isSink (at n j .kind) ≡ b → sinksAmong n t (j ∷ []) ≡ []
       none true true p q = absurd (other (eqb-true (stageOf n j) t p) q)

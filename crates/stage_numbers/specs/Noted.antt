@@ -15,7 +15,7 @@ use Rattle.stage_numbers.specs.LimitRows.{lowered}
 
 -- What noting node j asks: the row of its delays, a place for each of the stages above and below it, and a required time in its range.
 pub record NoteIn (kind : Kind) (layers : ℕ) (delay : List ℕ) (j above own : ℕ) (driver wire : List ℕ) (limit : List ℤ) : Type 0 where
-  pub delays : RowIn delay j layers halfRange
+  pub delays : RowIn layers delay j halfRange
   pub driver-long : length driver ≡ 64
   pub wire-row : RowOf wire own layers
   pub limit-row : RowOf limit above layers
@@ -25,6 +25,6 @@ pub record NoteIn (kind : Kind) (layers : ℕ) (delay : List ℕ) (j above own :
 abbrev pub Noted : Kind → ℕ → List ℕ → ℕ → ℕ → ℕ → List ℕ → List ℕ → List ℤ → List ℕ → List ℕ → List ℤ → Type 0
 Noted Steiner layers delay j above own driver wire limit driver′ wire′ limit′ = (driver′ ≡ driver) × (wire′ ≡ wire) × (limit′ ≡ limit)
 Noted (Buffer c r d) layers delay j above own driver wire limit driver′ wire′ limit′ =
-    (driver′ ≡ set driver own above) × RowSet 0 wire wire′ own layers (entry delay j) × (limit′ ≡ limit)
+    (driver′ ≡ set driver own above) × RowSet 0 wire wire′ own layers (entry layers delay j) × (limit′ ≡ limit)
 Noted (Sink c r) layers delay j above own driver wire limit driver′ wire′ limit′ =
-    (driver′ ≡ driver) × (wire′ ≡ wire) × RowSet (pos 0) limit limit′ above layers (lowered limit delay j r above)
+    (driver′ ≡ driver) × (wire′ ≡ wire) × RowSet (pos 0) limit limit′ above layers (lowered layers limit delay j r above)

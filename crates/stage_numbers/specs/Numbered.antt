@@ -6,7 +6,7 @@ use mathlib.Core.Logic.{_⊎_, inl, inr}
 use mathlib.Core.List.{List}
 use Prim.Native.Nat.{ℕ, _+_, _*_, _-_, _≤_, _<_}
 use native.Mathlib.Omega.{arith}
-use lib.ListN.{length, getD, set, length-set}
+use lib.ListN.{length, getD, replicate, set, getD-replicate, length-replicate, length-set}
 use lib.Seq.{getD-set-same, getD-set-other}
 use lib.IntN.{ℤ, pos, _-ℤ_}
 use Rattle.laws.specs.Basic.{if_then_else_, minZ}
@@ -20,11 +20,11 @@ use Rattle.facts.specs.Stages.{root-is-buffer, root-drives, drives-below, stage
 use Rattle.facts.specs.Ranges.{kind-in}
 use Rattle.tree.specs.Staged.{stageBelow, below-is}
 use Rattle.delays.specs.Tables.{entry}
-use Rattle.delays.specs.Delayed.{Delayed, delayTo, delay-below}
+use Rattle.delays.specs.Delayed.{LayerDelays, delayTo, delay-below}
 use Rattle.demands.specs.StageNumbers.{sinkLimit}
-use Rattle.readoff.specs.Laid.{limitOf}
+use Rattle.readoff.specs.Laid.{noLimit, limitOf}
 use Rattle.readoff.specs.RowSets.{RowSet}
-use Rattle.stage_numbers.specs.LimitRows.{lowered, NoLimits}
+use Rattle.stage_numbers.specs.LimitRows.{lowered}
 use Rattle.stage_numbers.specs.Limits.{limitsTo, limits-none, limits-more, limits-skip, limit-last, sink-limit, limit-in}
 use Rattle.stage_numbers.specs.Noted.{NoteIn, Noted}
 
@@ -47,24 +47,28 @@ pub record Numbering (n : Net) (driver wire : List ℕ) (limit : List ℤ) (j : 
   pub driven : Driven n driver wire j
   pub limited : Limited n limit j
 
-pub numbering-start : {n : Net} → Accepted n → {driver wire : List ℕ} {old limit : List ℤ} → length driver ≡ 64 → length wire ≡ 1024 → length old ≡ 1024
-    → NoLimits old limit → Numbering n driver wire limit 1
-numbering-start {n} A {limit = limit} ld lw ll N = record {
+pub numbering-start : {n : Net} → Accepted n → {driver wire : List ℕ} {limit : List ℤ} → length driver ≡ 64 → length wire ≡ 1024
+    → limit ≡ replicate 1024 noLimit → Numbering n driver wire limit 1
+numbering-start {n} A {limit = limit} ld lw ll = record {
   some = omega arith;
   inside = omega arith;
   driven = record { driver-is = λ i a b. absurd (omega arith); wire-is = λ i l a b. absurd (omega arith); driver-long = ld; wire-long = lw };
   limited = record {
-    limit-is = λ t l a b. N .none (t * maxLayers + l) (omega (arith, A .few-stages, A .few-layers)) ∙ ap limitOf (sym (ap (limitsTo n t l) none ∙ limits-none n t l));
-    limit-long = N .long ∙ ll;
+    limit-is = λ t l a b.
+        unset (t * maxLayers + l) (omega (arith, A .few-stages, A .few-layers)) ∙ ap limitOf (sym (ap (limitsTo n t l) none ∙ limits-none n t l));
+    limit-long = ap length ll ∙ length-replicate 1024 noLimit;
   };
 }
   where
     none : 1 - 1 ≡ 0
     none = omega arith
 
+    unset : (k : ℕ) → k < 1024 → getD limit k (pos 0) ≡ noLimit
+    unset k h = rw ll (getD-replicate 1024 k noLimit (pos 0) h)
+
 -- Two buffers that drive one stage are one.
-drives-apart : (n : Net) (i j : ℕ) → 1 ≤ i → 1 ≤ j → i ≤ length (n .nodes) → j ≤ length (n .nodes) → isBuffer (at n i .kind) ≡ true → isBuffer (at n j .kind) ≡ true
-    → drives n i ≡ drives n j → i ≡ j
+drives-apart : (n : Net) (i j : ℕ) → 1 ≤ i → 1 ≤ j → i ≤ length (n .nodes) → j ≤ length (n .nodes) → isBuffer (at n i .kind) ≡ true
+    → isBuffer (at n j .kind) ≡ true → drives n i ≡ drives n j → i ≡ j
 drives-apart n i j a b c d p q e =
     sym (root-drives n i c (root-is-buffer n i a ∙ p)) ∙ (ap (root n) e ∙ root-drives n j d (root-is-buffer n j b ∙ q))
 
@@ -83,8 +87,8 @@ module _ {n : Net} (A : Accepted n) {driver wire : List ℕ} {j : ℕ} (D : Driv
       before i d p (inr ne) = omega arith
 
   -- A buffer gives one, and no other buffer's is lost.
-  driven-more : {wire′ : List ℕ} {layers : ℕ} {f : ℕ → ℕ} → layers ≡ layerCount n → ((l : ℕ) → l < layers → f l ≡ delayTo n l j) → isBuffer (at n j .kind) ≡ true
-      → RowSet 0 wire wire′ (drives n j) layers f → Driven n (set driver (drives n j) (stageOf n j)) wire′ (j + 1)
+  driven-more : {wire′ : List ℕ} {layers : ℕ} {f : ℕ → ℕ} → layers ≡ layerCount n → ((l : ℕ) → l < layers → f l ≡ delayTo n l j)
+      → isBuffer (at n j .kind) ≡ true → RowSet 0 wire wire′ (drives n j) layers f → Driven n (set driver (drives n j) (stageOf n j)) wire′ (j + 1)
   driven-more {wire′} {layers} {f} el ef e R = record {
     driver-is = λ i c d p. driver-at i c d p (same-or j i);
     wire-is = λ i l c d p h. wire-at i l c d p h (same-or j i);
@@ -124,8 +128,8 @@ module _ {n : Net} (A : Accepted n) {limit : List ℤ} {j : ℕ} (L : Limited n 
       never q = let z : _≡_ {A = ℕ} 0 1 = cc in omega arith
 
   -- A sink lowers the limit of its stage to what it asks.
-  limited-more : {limit′ : List ℤ} {delay : List ℕ} {layers c : ℕ} {r : ℤ} → Delayed n delay → layers ≡ layerCount n → at n j .kind ≡ Sink c r
-      → RowSet (pos 0) limit limit′ (stageOf n j) layers (lowered limit delay j r (stageOf n j)) → Limited n limit′ (j + 1)
+  limited-more : {limit′ : List ℤ} {delay : List ℕ} {layers c : ℕ} {r : ℤ} → LayerDelays n layers delay → layers ≡ layerCount n → at n j .kind ≡ Sink c r
+      → RowSet (pos 0) limit limit′ (stageOf n j) layers (lowered layers limit delay j r (stageOf n j)) → Limited n limit′ (j + 1)
   unfolding lowered
   limited-more {limit′} {delay} {layers} {c} {r} D el e R = record {
     limit-is = λ t l c d. at-stage t l c d (same-or (stageOf n j) t);
@@ -136,11 +140,12 @@ module _ {n : Net} (A : Accepted n) {limit : List ℤ} {j : ℕ} (L : Limited n 
           → getD limit′ (t * maxLayers + l) (pos 0) ≡ limitOf (limitsTo n t l (j + 1 - 1))
       at-stage t l c d (inl q) =
           let s = stageOf n j in
-          let asks : sinkLimit n s l j ≡ r -ℤ pos (entry delay j l) = sink-limit n l j e ∙ ap (λ (k : ℕ). r -ℤ pos k) (sym (D .each j l a b d)) in
+          let asks : sinkLimit n s l j ≡ r -ℤ pos (entry layers delay j l) =
+          sink-limit n l j e ∙ ap (λ (k : ℕ). r -ℤ pos k) (sym (D .each j l a b (omega arith))) in
           let in-range = limit-in A l {t = s} {j = j} (record { edge = record { after = a; inside = b; stage = refl }; sink = ap isSink e }) .0 in
           rw (q, here) (
           R .set-to l (omega arith) ∙
-          (ap (λ (z : ℤ). minZ z (r -ℤ pos (entry delay j l))) (L .limit-is s l (stage-below A j a b) d) ∙
+          (ap (λ (z : ℤ). minZ z (r -ℤ pos (entry layers delay j l))) (L .limit-is s l (stage-below A j a b) d) ∙
           (ap (minZ (limitOf (limitsTo n s l (j - 1)))) (sym asks) ∙
           (sym (limit-last (limitsTo n s l (j - 1)) (sinkLimit n s l j) (omega arith)) ∙
           ap limitOf (sym (limits-more n s l j a refl (ap isSink e)))))))
@@ -155,8 +160,8 @@ pub record Turn (n : Net) (layers : ℕ) (delay : List ℕ) (j above own : ℕ) 
   pub onward : {driver′ wire′ : List ℕ} {limit′ : List ℤ} → Noted (at n j .kind) layers delay j above own driver wire limit driver′ wire′ limit′
       → Numbering n driver′ wire′ limit′ (j + 1)
 
-module _ {n : Net} (A : Accepted n) {delay : List ℕ} (D : Delayed n delay) {layers : ℕ} (el : layers ≡ layerCount n) {driver wire : List ℕ} {limit : List ℤ} {j : ℕ}
-    (N : Numbering n driver wire limit j) (b : j ≤ length (n .nodes)) where
+module _ {n : Net} (A : Accepted n) {delay : List ℕ} {layers : ℕ} (D : LayerDelays n layers delay) (el : layers ≡ layerCount n)
+    {driver wire : List ℕ} {limit : List ℤ} {j : ℕ} (N : Numbering n driver wire limit j) (b : j ≤ length (n .nodes)) where
   a : 1 ≤ j
   a = N .some
 
@@ -188,7 +193,7 @@ module _ {n : Net} (A : Accepted n) {delay : List ℕ} (D : Delayed n delay) {la
   noted (Buffer c r d) e (p, q, s) = rw (p, s, own-drives (ap isBuffer e)) (record {
     some = omega arith;
     inside = omega arith;
-    driven = driven-more A (N .driven) a b el (λ l h. D .each j l a b (omega arith)) (ap isBuffer e) (rw (own-drives (ap isBuffer e)) at q);
+    driven = driven-more A (N .driven) a b el (λ l h. D .each j l a b h) (ap isBuffer e) (rw (own-drives (ap isBuffer e)) at q);
     limited = limited-skip A (N .limited) a b (ap isSink e);
   })
   noted (Sink c r) e (p, q, s) = rw (p, q) (record {
@@ -203,8 +208,8 @@ module _ {n : Net} (A : Accepted n) {delay : List ℕ} (D : Delayed n delay) {la
     node-in = node-in;
     note-in = record {
       delays = record {
-        row = record { few = few; node-in = node-in; long = D .long };
-        each = λ l h. omega (arith, D .each j l a b (omega arith), delay-below A l j a b);
+        row = record { node-in = node-in; long = D .long };
+        each = λ l h. omega (arith, D .each j l a b h, delay-below A l j a b);
       };
       driver-long = N .driven .driver-long;
       wire-row = record { few = few; stage-in = omega (arith, own-below, A .few-stages); long = N .driven .wire-long };

@@ -1,48 +1,35 @@
 // The numbers of a net's tree of stages, laid out in the slices that the search reads (01, The tree and Timing rule; source 001, section 2): for each stage
 // the stage that drives it, and on each layer the delay to it and the least limit that its sinks set. One pass over the nodes.
 use rules::Kind;
-use tree::node_at;
+use words::node_at;
 ghost use mathlib.Core.Path.{_≡_};
 ghost use mathlib.Core.List.{List};
 ghost use Prim.Native.Nat.{ℕ, _≤_};
-ghost use lib.ListN.{length};
+ghost use lib.ListN.{length, replicate};
 ghost use lib.IntN.{pos, _-ℤ_};
 ghost use Rattle.laws.specs.Basic.{minZ};
 ghost use Rattle.facts.specs.Ranges.{TimeInRange};
 ghost use Rattle.facts.specs.Fits.{halfRange};
-ghost use Rattle.tree.specs.Held.{Held, netOf};
+ghost use Rattle.words.specs.Words.{netIn};
+ghost use Rattle.words.specs.Held.{Held};
 ghost use Rattle.tree.specs.Staged.{Staged};
 ghost use Rattle.delays.specs.Tables.{entry, Row, RowIn};
-ghost use Rattle.delays.specs.Delayed.{Delayed};
+ghost use Rattle.delays.specs.Delayed.{LayerDelays};
 ghost use Rattle.costs.specs.Priced.{Priced};
 ghost use Rattle.demands.specs.StageNumbers.{treeOf};
-ghost use Rattle.readoff.specs.Laid.{Laid};
+ghost use Rattle.readoff.specs.Laid.{Laid, noLimit};
 ghost use Rattle.readoff.specs.RowSets.{RowOf, RowSet};
-ghost use Rattle.stage_numbers.specs.LimitRows.{lowered, NoLimits};
+ghost use Rattle.stage_numbers.specs.LimitRows.{lowered};
 ghost use Rattle.stage_numbers.specs.Noted.{NoteIn, Noted};
-
-// What stands for no limit at all: no time that is compared with it is later.
-const NO_LIMIT: i64 = 0x4000_0000_0000_0000;
-
-// No stage has a limit yet.
-fn no_limits(limit: &mut [i64])
-    ensures { λ r. ⌜ NoLimits (now (limit .entry)) (now (limit .exit)) ⌝ }
-{
-    let mut k: usize = 0;
-    while k < limit.len() {
-        limit[k] = NO_LIMIT;
-        k += 1;
-    }
-}
 
 // The delay to buffer j, on each layer, is the delay to the stage t that it drives.
 fn copy_row(layers: usize, delay: &[u64], j: usize, t: usize, wire: &mut [u64])
-    requires { ⌜ Row (now delay) j layers × RowOf (now wire) t layers ⌝ }
-    ensures { λ r. ⌜ RowSet 0 (now (wire .entry)) (now (wire .exit)) t layers (entry (now (delay .entry)) j) ⌝ }
+    requires { ⌜ Row layers (now delay) j × RowOf (now wire) t layers ⌝ }
+    ensures { λ r. ⌜ RowSet 0 (now (wire .entry)) (now (wire .exit)) t layers (entry layers (now (delay .entry)) j) ⌝ }
 {
     let mut l: usize = 0;
     while l < layers {
-        wire[t * rules::MAX_LAYERS + l] = delay[j * rules::MAX_LAYERS + l];
+        wire[t * rules::MAX_LAYERS + l] = delay[j * layers + l];
         l += 1;
     }
 }
@@ -58,13 +45,15 @@ fn lesser(limit: i64, required: i64, delay: u64) -> i64
 
 // Sink j sets its stage t a limit on each layer.
 fn lower_limits(layers: usize, delay: &[u64], j: usize, required: i64, t: usize, limit: &mut [i64])
-    requires { ⌜ RowIn (now delay) j layers halfRange × RowOf (now limit) t layers × TimeInRange required ⌝ }
-    ensures { λ r. ⌜ RowSet (pos 0) (now (limit .entry)) (now (limit .exit)) t layers (lowered (now (limit .entry)) (now (delay .entry)) j required t) ⌝ }
+    requires { ⌜ RowIn layers (now delay) j halfRange × RowOf (now limit) t layers × TimeInRange required ⌝ }
+    ensures { λ r. ⌜
+        RowSet (pos 0) (now (limit .entry)) (now (limit .exit)) t layers (lowered layers (now (limit .entry)) (now (delay .entry)) j required t)
+        ⌝ }
 {
     let mut l: usize = 0;
     while l < layers {
         let at = t * rules::MAX_LAYERS + l;
-        let d = delay[j * rules::MAX_LAYERS + l];
+        let d = delay[j * layers + l];
         let old = limit[at];
         let new = lesser(old, required, d);
         limit[at] = new;
@@ -109,8 +98,7 @@ fn note_node(
 
 // The numbers of all stages: after the pass `driver`, `wire` and `limit` hold, with the costs, the tree of stages of the net.
 pub fn stage_numbers(
-    net: &[u8],
-    heads: &[usize],
+    words: &[u32],
     layers: usize,
     nodes: usize,
     stage: &[usize],
@@ -121,18 +109,17 @@ pub fn stage_numbers(
     limit: &mut [i64],
 )
     requires { ⌜
-        Held (now net) (now heads) nodes layers × Staged (netOf (now net)) (now stage) (now below) × Delayed (netOf (now net)) (now delay) ×
-        (length (now driver) ≡ 64) × (length (now wire) ≡ 1024) × (length (now limit) ≡ 1024)
+        Held (now words) nodes layers × Staged (netIn (now words)) (now stage) (now below) × LayerDelays (netIn (now words)) layers (now delay) ×
+        (length (now driver) ≡ 64) × (length (now wire) ≡ 1024) × (now limit ≡ replicate 1024 noLimit)
         ⌝ }
     ensures { λ r. ⌜
-        ((cost : List ℕ) → Priced (netOf (now (net .entry))) cost
-        → Laid (treeOf (netOf (now (net .entry)))) (now (driver .exit)) (now (wire .exit)) (now (limit .exit)) cost)
+        ((cost : List ℕ) → Priced (netIn (now (words .entry))) cost
+        → Laid (treeOf (netIn (now (words .entry)))) (now (driver .exit)) (now (wire .exit)) (now (limit .exit)) cost)
         ⌝ }
 {
-    no_limits(limit);
     let mut j: usize = 1;
     while j <= nodes {
-        let node = node_at(net, heads, layers, j);
+        let node = node_at(words, j);
         let kind = node.kind;
         let above = stage[j];
         let own = below[j];

@@ -1,26 +1,25 @@
-// Timing and cost of plans (01, Timing rule): the numbers of a net computed once, and the cost and slack that a plan has by them.
+// Timing and cost of plans (01, Timing rule): the cost and slack that a plan of a net has.
 use costs::plan_cost;
-use costs::stage_costs;
-use delays::delays;
-use delays::loads;
-use delays::units;
-use fields::time_at;
+use delays::plan_delays;
+use fanout::link;
 use required::stage_required;
 use rules::Judged;
 use tree::stages;
 use tree::wide;
+use words::arrival;
 ghost use mathlib.Core.Path.{_≡_};
 ghost use mathlib.Core.List.{List};
-ghost use Prim.Native.Nat.{ℕ, _≤_};
-ghost use lib.ListN.{length, replicate};
+ghost use Prim.Native.Nat.{ℕ};
 ghost use lib.IntN.{_-ℤ_};
 ghost use mir.Syntax.{w64};
 ghost use mir.Val.{SFits};
 ghost use Rattle.rules.specs.Tree.{Net, layerCount, areLayers};
 ghost use Rattle.rules.specs.Timing.{cost, slack};
-ghost use Rattle.tree.specs.Held.{Held, netOf};
-ghost use Rattle.required.specs.Timed.{Timed};
-ghost use Rattle.timing.specs.Tables.{Tables, Fitting};
+ghost use Rattle.words.specs.Words.{netIn};
+ghost use Rattle.words.specs.Held.{Held};
+ghost use Rattle.tree.specs.Staged.{Staged};
+ghost use Rattle.tree.specs.Plans.{Fitting};
+ghost use Rattle.delays.specs.Delayed.{PlanDelays};
 
 // Whether each layer number of a plan is below the layer count (refusal 8).
 pub fn are_layers(plan: &[u8], layers: usize) -> bool
@@ -36,31 +35,6 @@ pub fn are_layers(plan: &[u8], layers: usize) -> bool
     true
 }
 
-// The numbers of a net: the stage of each edge, the delay to each node on each layer, the cost of each stage on each layer.
-pub fn tables(
-    net: &[u8],
-    heads: &[usize],
-    layers: usize,
-    nodes: usize,
-    stage: &mut [usize],
-    below: &mut [usize],
-    delay: &mut [u64],
-    costs: &mut [u64],
-)
-    requires { ⌜
-        Held (now net) (now heads) nodes layers × (length (now stage) ≡ 256) × (length (now below) ≡ 256) × (length (now delay) ≡ 4096) × (now costs ≡ replicate 1024 0)
-        ⌝ }
-    ensures { λ r. ⌜ Tables (netOf (now (net .entry))) (now (stage .exit)) (now (below .exit)) (now (delay .exit)) (now (costs .exit)) ⌝ }
-{
-    let mut unit = [0u64; 32];
-    let mut load = [0u64; 4096];
-    stages(net, heads, layers, nodes, stage, below);
-    units(net, layers, &mut unit);
-    loads(net, heads, layers, nodes, &unit, &mut load);
-    delays(net, heads, layers, nodes, &unit, &load, delay);
-    stage_costs(net, heads, layers, nodes, stage, costs);
-}
-
 // The difference of two times.
 fn minus(x: i64, y: i64) -> i64
     requires { ⌜ SFits w64 (x -ℤ y) ⌝ }
@@ -69,47 +43,45 @@ fn minus(x: i64, y: i64) -> i64
     x - y
 }
 
-// The slack of a plan: the driver's required time minus its arrival time.
-pub fn slack_of(
-    net: &[u8],
-    heads: &[usize],
-    layers: usize,
-    nodes: usize,
-    stage: &[usize],
-    below: &[usize],
-    delay: &[u64],
-    plan: &[u8],
-) -> i64
-    requires { ⌜ Timed (now net) (now heads) nodes layers (now stage) (now below) (now delay) (now plan) ⌝ }
-    ensures { λ r. ⌜ r ≡ slack (netOf (now (net .entry))) (now (plan .entry)) ⌝ }
+// The slack of a plan, by the delays under it: the driver's required time minus its arrival time.
+fn slack_by(words: &[u32], nodes: usize, stage: &[usize], below: &[usize], delay: &[u64]) -> i64
+    requires { ⌜
+        ((layers : ℕ) × Held (now words) nodes layers) × Staged (netIn (now words)) (now stage) (now below) ×
+        ((plan : List ℕ) × Fitting (netIn (now words)) plan × PlanDelays (netIn (now words)) plan (now delay))
+        ⌝ }
+    ensures { λ r. ⌜
+        ((plan : List ℕ) → Fitting (netIn (now (words .entry))) plan → PlanDelays (netIn (now (words .entry))) plan (now (delay .entry))
+        → r ≡ slack (netIn (now (words .entry))) plan)
+        ⌝ }
 {
-    let required = stage_required(net, heads, layers, nodes, stage, below, delay, plan, 0);
-    let arrival = time_at(net, 14 + 4 * layers);
-    minus(required, arrival)
+    let mut first = [0usize; 256];
+    let mut next = [0usize; 256];
+    link(stage, nodes + 1, &mut first, &mut next);
+    let required = stage_required(words, nodes, below, &first, &next, delay, 0);
+    let arrives = arrival(words);
+    minus(required, arrives)
 }
 
-// The cost and slack of a plan of the net, by its tables.
+// The cost and slack of a plan of the net, whose edges belong to these stages.
 pub fn judged_by(
-    net: &[u8],
-    heads: &[usize],
-    layers: usize,
+    words: &[u32],
     nodes: usize,
     stage: &[usize],
     below: &[usize],
-    delay: &[u64],
-    costs: &[u64],
     plan: &[u8],
 ) -> Judged
     requires { ⌜
-        Held (now net) (now heads) nodes layers × Tables (netOf (now net)) (now stage) (now below) (now delay) (now costs) × Fitting (netOf (now net)) (now plan)
+        ((layers : ℕ) × Held (now words) nodes layers) × Staged (netIn (now words)) (now stage) (now below) × Fitting (netIn (now words)) (now plan)
         ⌝ }
     ensures { λ r.
         ⌜
-        r ≡ record { refusal = 0; cost = cost (netOf (now (net .entry))) (now (plan .entry)); slack = slack (netOf (now (net .entry))) (now (plan .entry)) }
+        r ≡ record { refusal = 0; cost = cost (netIn (now (words .entry))) (now (plan .entry)); slack = slack (netIn (now (words .entry))) (now (plan .entry)) }
         ⌝ }
 {
-    let cost = plan_cost(costs, plan);
-    let slack = slack_of(net, heads, layers, nodes, stage, below, delay, plan);
+    let mut delay = [0u64; 256];
+    plan_delays(words, nodes, stage, plan, &mut delay);
+    let cost = plan_cost(words, nodes, stage, plan);
+    let slack = slack_by(words, nodes, stage, below, &delay);
     Judged {
         refusal: 0,
         cost,
@@ -118,36 +90,15 @@ pub fn judged_by(
 }
 
 // The cost and slack of a plan of the net.
-pub fn judged(net: &[u8], heads: &[usize], layers: usize, nodes: usize, plan: &[u8]) -> Judged
-    requires { ⌜ Held (now net) (now heads) nodes layers × Fitting (netOf (now net)) (now plan) ⌝ }
+pub fn judged(words: &[u32], nodes: usize, plan: &[u8]) -> Judged
+    requires { ⌜ ((layers : ℕ) × Held (now words) nodes layers) × Fitting (netIn (now words)) (now plan) ⌝ }
     ensures { λ r.
         ⌜
-        r ≡ record { refusal = 0; cost = cost (netOf (now (net .entry))) (now (plan .entry)); slack = slack (netOf (now (net .entry))) (now (plan .entry)) }
+        r ≡ record { refusal = 0; cost = cost (netIn (now (words .entry))) (now (plan .entry)); slack = slack (netIn (now (words .entry))) (now (plan .entry)) }
         ⌝ }
 {
     let mut stage = [0usize; 256];
     let mut below = [0usize; 256];
-    let mut delay = [0u64; 4096];
-    let mut costs = [0u64; 1024];
-    tables(
-        net,
-        heads,
-        layers,
-        nodes,
-        &mut stage,
-        &mut below,
-        &mut delay,
-        &mut costs,
-    );
-    judged_by(
-        net,
-        heads,
-        layers,
-        nodes,
-        &stage,
-        &below,
-        &delay,
-        &costs,
-        plan,
-    )
+    stages(words, nodes, &mut stage, &mut below);
+    judged_by(words, nodes, &stage, &below, plan)
 }

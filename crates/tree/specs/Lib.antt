@@ -1,2 +1,3 @@
-pub mod Held
 pub mod Staged
+pub mod Gates
+pub mod Plans

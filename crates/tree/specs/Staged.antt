@@ -3,7 +3,7 @@
 use mathlib.Core.Path.{_≡_, refl, ap, sym, _∙_}
 use mathlib.Core.Bool.{Bool, true, false}
 use mathlib.Core.Logic.{_⊎_, inl, inr}
-use mathlib.Core.List.{List, [], _∷_, _++_}
+use mathlib.Core.List.{List}
 use Prim.Native.Nat.{ℕ, zero, suc, _+_, _-_, _≤_, _<_}
 use native.Mathlib.Omega.{arith}
 use lib.ListN.{length, getD, set, length-set}
@@ -11,9 +11,9 @@ use lib.Seq.{getD-set-same, getD-set-other}
 use Rattle.laws.specs.Basic.{if_then_else_, bit, from, keep}
 use Rattle.laws.specs.Booleans.{same-or}
 use Rattle.laws.specs.Lists.{keep-more, from-more}
-use Rattle.rules.specs.Tree.{Net, at, isBuffer, isRoot, drives, rootFrom, stageOf, stages}
+use Rattle.rules.specs.Tree.{Net, at, isBuffer, drives, rootFrom, stageOf}
 use Rattle.facts.specs.Accepted.{Accepted}
-use Rattle.facts.specs.Stages.{root-is-buffer, climb-root, climb-up, climb-same, drives-below, stage-below}
+use Rattle.facts.specs.Stages.{root-is-buffer, climb-root, climb-up, climb-same, drives-below}
 
 -- the stage that the wire below node i belongs to
 unfoldable pub stageBelow : Net → ℕ → ℕ
@@ -21,7 +21,9 @@ stageBelow n i = drives n (rootFrom i n i)
 
 pub drives-more : (n : Net) (j : ℕ) → drives n (suc j) ≡ drives n j + bit (isBuffer (at n (suc j) .kind))
 unfolding drives
-drives-more n j = ap (λ (l : List ℕ). length (keep (λ i. isBuffer (at n i .kind)) l)) (from-more 1 j) ∙ keep-more (λ i. isBuffer (at n i .kind)) (from 1 j) (1 + j) ∙ ap (λ (i : ℕ). length (keep (λ i. isBuffer (at n i .kind)) (from 1 j)) + bit (isBuffer (at n i .kind))) (omega arith)
+drives-more n j = ap (λ (l : List ℕ). length (keep (λ i. isBuffer (at n i .kind)) l)) (from-more 1 j) ∙
+    keep-more (λ i. isBuffer (at n i .kind)) (from 1 j) (1 + j) ∙
+    ap (λ (i : ℕ). length (keep (λ i. isBuffer (at n i .kind)) (from 1 j)) + bit (isBuffer (at n i .kind))) (omega arith)
 
 module _ {n : Net} (A : Accepted n) where
   pub stage-is-below : (j : ℕ) → 1 ≤ j → stageOf n j ≡ stageBelow n (at n j .parent)
@@ -32,7 +34,8 @@ module _ {n : Net} (A : Accepted n) where
   unfolding stageOf stageBelow
   below-is (suc j) h = go (isBuffer (at n (suc j) .kind)) refl
     where
-      go : (b : Bool) → isBuffer (at n (suc j) .kind) ≡ b → drives n (rootFrom (suc j) n (suc j)) ≡ (if b then drives n (suc j) else drives n (rootFrom (suc j) n (at n (suc j) .parent)))
+      go : (b : Bool) → isBuffer (at n (suc j) .kind) ≡ b
+          → drives n (rootFrom (suc j) n (suc j)) ≡ (if b then drives n (suc j) else drives n (rootFrom (suc j) n (at n (suc j) .parent)))
       go true e = ap (drives n) (climb-root n (suc j) (suc j) (omega arith) (root-is-buffer n (suc j) h ∙ e))
       go false e =
           let l = A .parent-lower (suc j) h in
@@ -84,7 +87,8 @@ pub record Turn (n : Net) (stage below : List ℕ) (j count : ℕ) : Type 0 wher
   pub parent-in : at n j .parent < 256
   pub count-in : count + bit (isBuffer (at n j .kind)) ≤ 255
   pub onward : Passing n (set stage j (getD below (at n j .parent) 0))
-      (set below j (if isBuffer (at n j .kind) then count + bit (isBuffer (at n j .kind)) else getD below (at n j .parent) 0)) (j + 1) (count + bit (isBuffer (at n j .kind)))
+      (set below j (if isBuffer (at n j .kind) then count + bit (isBuffer (at n j .kind)) else getD below (at n j .parent) 0)) (j + 1)
+      (count + bit (isBuffer (at n j .kind)))
 
 pub turn : {n : Net} → Accepted n → {stage below : List ℕ} {j count : ℕ} → Passing n stage below j count → j ≤ length (n .nodes) → Turn n stage below j count
 turn {n} A {stage} {below} {j} {count} P h =

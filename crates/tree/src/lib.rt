@@ -1,15 +1,16 @@
-// The tree of a net that was read (01, The tree): its nodes by number, and the stage of each edge.
-use fields::number;
-use reader::Node;
+// The tree of a net that was read (01, The tree): what drives the wire below each node, and the stage of each edge.
 use reader::buffer_bit;
-use reader::node_of;
 use rules::Kind;
+use words::node_at;
+use words::node_in;
 ghost use mathlib.Core.Path.{_≡_};
-ghost use Prim.Native.Nat.{ℕ, _+_, _*_, _≤_};
+ghost use Prim.Native.Nat.{ℕ, _≤_};
 ghost use lib.ListN.{length};
 ghost use Rattle.laws.specs.Basic.{if_then_else_};
-ghost use Rattle.rules.specs.Tree.{at, isBuffer};
-ghost use Rattle.tree.specs.Held.{Held, netOf, recordOf};
+ghost use Rattle.rules.specs.Tree.{isBuffer};
+ghost use Rattle.words.specs.Words.{netIn};
+ghost use Rattle.words.specs.Held.{Held};
+ghost use Rattle.tree.specs.Gates.{gateOf};
 ghost use Rattle.tree.specs.Staged.{Staged};
 
 // A layer number as an index.
@@ -19,14 +20,34 @@ pub fn wide(layer: u8) -> usize
     layer as usize
 }
 
-// Node j of the net.
-pub fn node_at(net: &[u8], heads: &[usize], layers: usize, j: usize) -> Node
-    requires { ⌜ ((nodes : ℕ) × Held (now net) (now heads) nodes layers × (1 ≤ j) × (j ≤ nodes)) ⌝ }
-    ensures { λ r. ⌜ r ≡ recordOf (at (netOf (now (net .entry))) j) ⌝ }
+// What drives the wire below a node: the gate of a root, or the wire above.
+pub enum Gate {
+    Root { gate_res: u64, intrinsic: u64 },
+    Wire,
+}
+
+// What drives the wire below node i. Row 0, the driver's, is read as a buffer.
+pub fn gate_at(words: &[u32], i: usize) -> Gate
+    requires { ⌜ ((nodes : ℕ) × (layers : ℕ) × Held (now words) nodes layers × (i ≤ nodes)) ⌝ }
+    ensures { λ r. ⌜ r ≡ gateOf (netIn (now (words .entry))) i ⌝ }
 {
-    let head = heads[j];
-    let tag = number(net, head, 1);
-    node_of(net, tag, head + 3, layers)
+    let node = node_in(words, i);
+    let kind = node.kind;
+    match kind {
+        Kind::Steiner => Gate::Wire,
+        Kind::Buffer {
+            input_cap: _,
+            gate_res,
+            intrinsic,
+        } => Gate::Root {
+            gate_res,
+            intrinsic,
+        },
+        Kind::Sink {
+            input_cap: _,
+            required: _,
+        } => Gate::Wire,
+    }
 }
 
 // The stage that the wire below a node belongs to: a buffer begins one of its own, below another node goes on that of the edge above.
@@ -48,22 +69,15 @@ fn stage_below(kind: Kind, own: usize, above: usize) -> usize
 }
 
 // The stage of each edge, and of the wire below each node.
-pub fn stages(
-    net: &[u8],
-    heads: &[usize],
-    layers: usize,
-    nodes: usize,
-    stage: &mut [usize],
-    below: &mut [usize],
-)
-    requires { ⌜ Held (now net) (now heads) nodes layers × (length (now stage) ≡ 256) × (length (now below) ≡ 256) ⌝ }
-    ensures { λ r. ⌜ Staged (netOf (now (net .entry))) (now (stage .exit)) (now (below .exit)) ⌝ }
+pub fn stages(words: &[u32], nodes: usize, stage: &mut [usize], below: &mut [usize])
+    requires { ⌜ ((layers : ℕ) × Held (now words) nodes layers) × (length (now stage) ≡ 256) × (length (now below) ≡ 256) ⌝ }
+    ensures { λ r. ⌜ Staged (netIn (now (words .entry))) (now (stage .exit)) (now (below .exit)) ⌝ }
 {
     below[0] = 0;
     let mut count: usize = 0;
     let mut j: usize = 1;
     while j <= nodes {
-        let node = node_at(net, heads, layers, j);
+        let node = node_at(words, j);
         let parent = node.parent;
         let kind = node.kind;
         let above = below[parent];

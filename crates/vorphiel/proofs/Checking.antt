@@ -1,5 +1,6 @@
 -- What checking answers, from what the reader gave.
 use mathlib.Core.Path.{_≡_, ap}
+use mathlib.Core.Bool.{Bool}
 use mathlib.Core.List.{List}
 use Prim.Native.Nat.{ℕ, _+_, _≤_}
 use native.Mathlib.Omega.{arith}
@@ -16,16 +17,22 @@ module _ (bs : List ℕ) where
   unfolding check
   check-refused e = rw (e, check)
 
-  check-accepted : {m : Net} {k : Counts} → read bs ≡ accept m → k ≡ countsOf m → record { refusal = 0; nodes = k .nodes + 1; stages = k .stages; layers = k .layers } ≡ check bs
+  check-accepted : {m : Net} {k : Counts} → read bs ≡ accept m → k ≡ countsOf m → record {
+    refusal =
+        0;
+    nodes = k .nodes + 1;
+    stages = k .stages;
+    layers = k .layers;
+  } ≡ check bs
   unfolding check countsOf
   check-accepted e q = rw (e, q, check)
 
-module _ {bs heads : List ℕ} where
-  pub refused : {r : ℕ} → NetRead bs (net.Refused r) heads → record { refusal = r; nodes = 0; stages = 0; layers = 0 } ≡ check bs
+module _ {bs w : List ℕ} {keep : Bool} where
+  pub refused : {r : ℕ} → NetRead bs keep (net.Refused r) w → record { refusal = r; nodes = 0; stages = 0; layers = 0 } ≡ check bs
   unfolding counts
   refused R = check-refused bs (turned-refused (read bs) countsOf (R .answer))
 
-  module _ {n s l : ℕ} (R : NetRead bs (net.Read n s l) heads) where
+  module _ {n s l : ℕ} (R : NetRead bs keep (net.Read n s l) w) where
     pub found : record { refusal = 0; nodes = n + 1; stages = s; layers = l } ≡ check bs
     unfolding counts
     found = let (m, e, q) = turned-accepted (read bs) countsOf (R .answer) in check-accepted bs e q

@@ -1,6 +1,6 @@
 -- What planning answers, by the refusals in their order, from what the reader gave.
 use mathlib.Core.Path.{_≡_, refl}
-use mathlib.Core.Bool.{true, false, _&&_}
+use mathlib.Core.Bool.{Bool, true, false, _&&_}
 use mathlib.Core.List.{List}
 use Prim.Native.Nat.{ℕ, _≤_, _<_}
 use native.Mathlib.Omega.{arith}
@@ -17,7 +17,8 @@ use Rattle.facts.specs.Answers.{turned-refused}
 use Rattle.facts.specs.Refusals.{read-numbered}
 use Rattle.reader.specs.Net.{countsOf, counts, NetRead}
 use Rattle.reader.specs.declared.Net.the-variants as net
-use Rattle.tree.specs.Held.{Kept, netOf}
+use Rattle.reader.specs.Kept.{Kept}
+use Rattle.words.specs.Words.{netIn}
 use Rattle.planning.specs.Calls.{Share, Admitted, refusedWith, PlansNet, refused-floor, plan-refused}
 
 pub share-of : {p q : ℕ} → leb p maxShare && within 1 maxShare q ≡ true → Share p q
@@ -41,28 +42,28 @@ module _ (bs : List ℕ) (p q : ℕ) (table : List ℤ) (buffer : List ℕ) wher
   unfolding planned
   unread e = rw (e, planned) refl
 
-  pub plan-unread : {r : ℕ} {heads : List ℕ} → NetRead bs (net.Refused r) heads → PlansNet bs p q table table buffer buffer (refusedWith r)
+  pub plan-unread : {r : ℕ} {keep : Bool} {w : List ℕ} → NetRead bs keep (net.Refused r) w → PlansNet bs p q table table buffer buffer (refusedWith r)
   unfolding counts
   plan-unread {r} R =
       let e = turned-refused (read bs) countsOf (R .answer) in
       let low = read-numbered bs .low r e in
       early (unread e) (read-numbered bs .some r e) (omega arith)
 
-  module _ {heads : List ℕ} {nodes layers s : ℕ} (K : Kept bs heads nodes s layers) where
+  module _ {w : List ℕ} {nodes layers s : ℕ} (K : Kept bs w nodes s layers) where
     at-9 : leb p maxShare && within 1 maxShare q ≡ false → planned bs p q (length table) (length buffer) ≡ refuse 9
     unfolding planned
-    at-9 t9 = simp (K .held .holds, t9)
+    at-9 t9 = simp (K .holds, t9)
 
     pub plan-9 : leb p maxShare && within 1 maxShare q ≡ false → PlansNet bs p q table table buffer buffer (refusedWith 9)
     plan-9 t9 = early (at-9 t9) (omega arith) (omega arith)
 
     module _ (t9 : leb p maxShare && within 1 maxShare q ≡ true) where
-      at-10 : leb (stages (netOf bs)) (length buffer) ≡ false → planned bs p q (length table) (length buffer) ≡ refuse 10
+      at-10 : leb (stages (netIn w)) (length buffer) ≡ false → planned bs p q (length table) (length buffer) ≡ refuse 10
       unfolding planned
-      at-10 t10 = simp (K .held .holds, t9, t10)
+      at-10 t10 = simp (K .holds, t9, t10)
 
       pub plan-10 : length buffer < s → PlansNet bs p q table table buffer buffer (refusedWith 10)
-      plan-10 h = early (at-10 (lt-leb (stages (netOf bs)) (length buffer) (omega (arith, K .stages-are)))) (omega arith) (omega arith)
+      plan-10 h = early (at-10 (lt-leb (stages (netIn w)) (length buffer) (omega (arith, K .stages-are)))) (omega arith) (omega arith)
 
-      pub admitted : s ≤ length buffer → Admitted bs heads nodes layers s p q (length buffer)
-      admitted h = record { kept = K; share = share-of t9; room-enough = h }
+      pub admitted : s ≤ length buffer → Admitted w nodes layers s p q (length buffer)
+      admitted h = record { held = K .held; stages-are = K .stages-are; share = share-of t9; room-enough = h }

@@ -9,6 +9,8 @@ use rules::Judged;
 use rules::Planned;
 use timing::are_layers;
 use timing::judged;
+use words::CHECK_WORDS;
+use words::WORDS;
 ghost use mathlib.Core.Path.{_≡_};
 ghost use mathlib.Core.Bool.{_&&_};
 ghost use lib.Dec.{leb};
@@ -24,8 +26,8 @@ ghost use Rattle.vorphiel.specs.Answers.{netRefusal};
 pub fn check(net: &[u8]) -> Checked
     ensures { λ r. ⌜ r ≡ check (now (net .entry)) ⌝ }
 {
-    let mut heads = [0usize; 256];
-    let found = read(net, &mut heads);
+    let mut words = [0u32; CHECK_WORDS];
+    let found = read(net, false, &mut words);
     match found {
         Net::Read {
             nodes,
@@ -84,8 +86,8 @@ fn net_refusal(found: Net) -> u8
 pub fn judge(net: &[u8], plan: &[u8]) -> Judged
     ensures { λ r. ⌜ r ≡ judge (now (net .entry)) (now (plan .entry)) ⌝ }
 {
-    let mut heads = [0usize; 256];
-    let found = read(net, &mut heads);
+    let mut words = [0u32; WORDS];
+    let found = read(net, true, &mut words);
     let Net::Read {
         nodes,
         stages,
@@ -114,7 +116,7 @@ pub fn judge(net: &[u8], plan: &[u8]) -> Judged
             slack: 0,
         };
     }
-    judged(net, &heads, layers, nodes, plan)
+    judged(&words, nodes, plan)
 }
 
 // Judging for hosts in other languages: the result is the refusal number, cost and slack are left where the host says.
@@ -146,8 +148,8 @@ fn share_in_range(p: u64, q: u64) -> bool
 fn planned(net: &[u8], p: u64, q: u64, table: &mut [i64], buffer: &mut [u8]) -> Planned
     ensures { λ r. ⌜ PlansNet (now (net .entry)) p q (now (table .entry)) (now (table .exit)) (now (buffer .entry)) (now (buffer .exit)) r ⌝ }
 {
-    let mut heads = [0usize; 256];
-    let found = read(net, &mut heads);
+    let mut words = [0u32; WORDS];
+    let found = read(net, true, &mut words);
     let Net::Read {
         nodes,
         stages,
@@ -162,7 +164,7 @@ fn planned(net: &[u8], p: u64, q: u64, table: &mut [i64], buffer: &mut [u8]) -> 
     if buffer.len() < stages {
         return refused(10);
     }
-    plan_net(net, &heads, layers, nodes, stages, p, q, table, buffer)
+    plan_net(&words, layers, nodes, stages, p, q, table, buffer)
 }
 
 // Planning (01, Planning) with share p/q: the plan chosen into the first bytes of `buffer`, its cost and slack, k of the grain and a floor; or a refusal number

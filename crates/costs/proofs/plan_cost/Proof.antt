@@ -1,55 +1,69 @@
--- `plan_cost` is right: before stage t the total is what the stages before t cost by the table, and the table is that of the net.
+-- `plan_cost` is right: before node j the total is what the edges before it cost on the layers of their stages.
 use borrow.Author.Needs.{needs}
-use Prim.Native.Nat.{ℕ, _-_, _≤_, _+_, _*_, _<_}
+use Prim.Native.Nat.{_-_, _≤_, _+_}
 use mathlib.Core.Path.{_≡_, sym, ap, _∙_}
 use native.Mathlib.Omega.{arith}
-use lib.ListN.{length, getD}
-use Rattle.facts.specs.Costs.{maxPlanCost}
-use Rattle.costs.specs.Pricing.{planSum, sum-start, sum-next, sum-all, turn-in}
+use lib.ListN.{length}
+use Rattle.words.specs.Words.{netIn}
+use Rattle.costs.specs.Pricing.{planCostTo, plan-none, plan-all}
+use Rattle.costs.proofs.Turns.{CostTurn, cost-turn}
 use Rattle.costs.proofs.plan_cost.Statement.{statement}
 use Rattle.costs.proofs.plan_cost.Tie as tie
 use Rattle.costs.proofs.plan_cost.Reads as reads
 use Rattle.costs.proofs.plan_cost.Lts as lts
+use Rattle.words.proofs.edge_cost.Reads as edge-cost-reads
 use Rattle.tree.proofs.wide.Reads as wide-reads
 
 abbrev Inv-loop : tie.InvT-loop
-Inv-loop costs plan total₀ t₀ total t = (t ≤ length plan) × (total ≡ planSum costs plan t)
+Inv-loop words nodes stage plan total₀ j₀ total j = (1 ≤ j) × (j ≤ nodes + 1) × (total ≡ planCostTo (netIn words) plan (j - 1))
 
 abbrev μ-loop : tie.MeasureT-loop
-μ-loop costs plan total₀ t₀ total t = length plan - t
+μ-loop words nodes stage plan total₀ j₀ total j = nodes + 1 - j
 
-here : (c : tie.After-wide Inv-loop μ-loop)
-    → (c .wide .result < 16) × (c .before .before .before .loop .t < 64) × (planSum (c .before .before .before .before .before .before .args .costs .now) (c .before .before .before .before .before .before .args .plan .now) (c .before .before .before .loop .t) + getD (c .before .before .before .before .before .before .args .costs .now) (c .before .before .before .loop .t * 16 + c .wide .result) 0 ≤ 65 * maxPlanCost)
-here c =
-    let s = c .before .before .before .before .before .before .pre in
-    turn-in (s .1) (s .2) _ (s .4) (c .before .before .before .loop .t) (c .wide .result) (omega (arith, s .3, c .before .before .loop-test .taken)) (c .wide .ensures)
+here : (c : tie.In-loop Inv-loop μ-loop)
+    → CostTurn (c .before .before .before .before .before .args .words .now) (c .before .before .before .before .before .args .stage .now)
+    (c .before .before .before .before .before .args .plan .now) (c .before .before .before .before .before .pre .0 .0) (c .before .loop .j)
+here c = let s = c .before .before .before .before .before .pre in cost-turn (s .0 .1) (s .1 .1) (s .2) (c .before .loop .inv .0) (c .loop-test .taken)
 
 loop-holds : tie.Need-loop-holds Inv-loop μ-loop
-loop-holds c = (search needs, sym (sum-start _ _))
+loop-holds c = (search needs, search needs, sym (plan-none _ _))
+
+mul-wide : tie.Need-mul-wide Inv-loop μ-loop
+mul-wide c = omega (arith, here (c) .node-in)
 
 shared-slice-read-wide : tie.Need-shared-slice-read-wide Inv-loop μ-loop
-shared-slice-read-wide c = search needs
+shared-slice-read-wide c = here (c .before) .in-stages
+
+shared-slice-read-wide-2 : tie.Need-shared-slice-read-wide-2 Inv-loop μ-loop
+shared-slice-read-wide-2 c = here (c .before .before) .stage-in
 
 wide-requires : tie.Need-wide-requires Inv-loop μ-loop
 wide-requires c κs = search needs
 
-mul-total : tie.Need-mul-total Inv-loop μ-loop
-mul-total c = let h = here c in omega (arith, h .0, h .1)
+edge-cost-requires : tie.Need-edge-cost-requires Inv-loop μ-loop
+edge-cost-requires c κs =
+    let s = c .before .before .before .before .before .before .before .before .pre .0 in (
+      _,
+      _,
+      s .1,
+      c .before .before .before .before .loop .inv .0,
+      c .before .before .before .loop-test .taken,
+      omega (
+        arith,
+        here
+            (c .before .before .before) .layer-in,
+        c .wide .ensures,
+      ),
+    )
 
 add-total : tie.Need-add-total Inv-loop μ-loop
-add-total c = let h = here c in omega (arith, h .0, h .1)
+add-total c =
+    let t = here (c .before .before .before .before) in
+    let q = rw (← c .before .wide .ensures) at (t .cost-in) in
+    omega (arith, t .before-in, q, c .edge-cost .ensures, c .before .before .before .before .before .loop .inv .2)
 
-mul-total-2 : tie.Need-mul-total-2 Inv-loop μ-loop
-mul-total-2 c = let h = here c in omega (arith, h .0, h .1)
-
-shared-slice-read-total : tie.Need-shared-slice-read-total Inv-loop μ-loop
-shared-slice-read-total c = let h = here (c .before) in omega (arith, h .0, h .1, c .before .before .before .before .before .before .before .pre .2 .long)
-
-add-total-2 : tie.Need-add-total-2 Inv-loop μ-loop
-add-total-2 c = let h = here (c .before) in omega (arith, h .2, c .before .before .before .before .loop .inv .1)
-
-add-t : tie.Need-add-t Inv-loop μ-loop
-add-t c = search needs
+add-j : tie.Need-add-j Inv-loop μ-loop
+add-j c = omega (arith, here (c .before .before .before .before) .node-in)
 
 loop-less : tie.Need-loop-less Inv-loop μ-loop
 loop-less c = search needs
@@ -57,14 +71,24 @@ loop-less c = search needs
 loop-again : tie.Need-loop-again Inv-loop μ-loop
 loop-again c = (
   omega arith,
-  sym (sum-next _ _ _ ∙ (rw (← c .before .wide .ensures) (ap (λ (k : ℕ). k + getD (c .before .before .before .before .before .before .before .args .costs .now) (c .before .before .before .before .loop .t * 16 + c .before .wide .result) 0) (sym (c .before .before .before .before .loop .inv .1))))),
+  omega (arith, c .before .before .before .before .loop-test .taken),
+  rw (
+    c .edge-cost .ensures,
+    c .before .wide .ensures,
+    c .before .before .before .before .before .loop .inv .2,
+  ) (here (c .before .before .before .before) .more),
 )
 
 returns : tie.Need-returns Inv-loop μ-loop
 returns c =
-    λ n A P len L.
-    let e : c .before .loop .t ≡ length (c .before .before .before .before .args .plan .now) = omega arith in
-    c .before .loop .inv .1 ∙ (ap (planSum (c .before .before .before .before .args .costs .now) (c .before .before .before .before .args .plan .now)) (e ∙ len) ∙ sum-all A P _ L)
+    let s = c .before .before .before .before .before .pre .0 in
+    let e : c .before .loop .j - 1 ≡ length (netIn (c .before .before .before .before .before .args .words .now) .nodes) = omega (
+      arith,
+      c .before .loop .inv .1,
+      c .loop-test .left,
+      s .1 .nodes-are,
+    ) in
+    c .before .loop .inv .2 ∙ (ap (planCostTo _ _) e ∙ plan-all _ _)
 
 pub plan-cost-spec : {M : Type 1} → statement M
 plan-cost-spec =
@@ -73,14 +97,13 @@ plan-cost-spec =
     Inv-loop
     μ-loop
     loop-holds
+    mul-wide
     shared-slice-read-wide
+    shared-slice-read-wide-2
     wide-requires
-    mul-total
+    edge-cost-requires
     add-total
-    mul-total-2
-    shared-slice-read-total
-    add-total-2
-    add-t
+    add-j
     loop-less
     loop-again
     returns)

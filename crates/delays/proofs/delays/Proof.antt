@@ -1,65 +1,137 @@
 -- `delays` is right: before node j the rows of all nodes before it hold their delays, so the delay to j's upper end is known, and its edge adds its own.
 use borrow.Author.Needs.{needs}
-use Prim.Native.Nat.{_-_, _+_}
+use mathlib.Core.Path.{_≡_, refl, _∙_}
+use Prim.Native.Nat.{_-_, _+_, _≤_}
 use native.Mathlib.Omega.{arith}
-use Rattle.tree.specs.Held.{netOf, held-accepted}
+use lib.ListN.{length}
+use Rattle.words.specs.Words.{netIn}
+use Rattle.words.specs.Held.{held-accepted}
 use Rattle.delays.specs.Delayed.{Delaying, DelayTurn, delay-turn, delaying-start, delaying-end}
+use Rattle.delays.proofs.Rows.{Staging, staging}
 use Rattle.delays.proofs.delays.Statement.{statement}
 use Rattle.delays.proofs.delays.Tie as tie
 use Rattle.delays.proofs.delays.Reads as reads
 use Rattle.delays.proofs.delays.Lts as lts
-use Rattle.delays.proofs.add_edge.Reads as add-edge-reads
-use Rattle.delays.proofs.start.Reads as start-reads
-use Rattle.tree.proofs.node_at.Reads as node-at-reads
+use Rattle.delays.proofs.set_delays.Reads as set-delays-reads
+use Rattle.tree.proofs.gate_at.Reads as gate-at-reads
+use Rattle.words.proofs.node_at.Reads as node-at-reads
+use Rattle.tree.proofs.wide.Reads as wide-reads
 
 abbrev Inv-loop : tie.InvT-loop
-Inv-loop net heads layers nodes unit load delay₀ j₀ delay j = Delaying (netOf net) delay j
+Inv-loop words nodes stage first columns load delay₀ j₀ delay j = Delaying (netIn words) first columns delay j × (length delay ≡ length delay₀)
 
 abbrev μ-loop : tie.MeasureT-loop
-μ-loop net heads layers nodes unit load delay₀ j₀ delay j = nodes + 1 - j
+μ-loop words nodes stage first columns load delay₀ j₀ delay j = nodes + 1 - j
 
 abbrev begin : tie.In-loop Inv-loop μ-loop → tie.Start Inv-loop μ-loop
 begin c = c .before .before .before .before .before .before .before
 
-here : (c : tie.In-loop Inv-loop μ-loop)
-    → DelayTurn (netOf (begin c .args .net .now)) (begin c .args .unit .now) (begin c .args .load .now) (c .before .loop .delay) (begin c .args .layers) (c .before .loop .j)
-here c = delay-turn (held-accepted (begin c .pre .0)) (begin c .pre .0 .layers-are) (begin c .pre .1) (begin c .pre .2) (c .before .loop .inv) (omega (arith, begin c .pre .0 .nodes-are, c .loop-test .taken))
+inside : (c : tie.In-loop Inv-loop μ-loop) → c .before .loop .j ≤ length (netIn (begin c .args .words .now) .nodes)
+inside c = omega (arith, begin c .pre .0 .1 .nodes-are, c .loop-test .taken)
+
+stages-here : (c : tie.In-loop Inv-loop μ-loop)
+    → Staging (netIn (begin c .args .words .now)) (begin c .args .stage .now) (begin c .args .first .now) (begin c .args .columns) (c .before .loop .j)
+stages-here c = let s = begin c .pre in staging (held-accepted (s .0 .1)) (s .1 .1) (s .2) (c .before .loop .inv .0 .some) (inside c)
+
+here : (c : tie.After-wide Inv-loop μ-loop)
+    → DelayTurn (netIn (begin (c .before .before .before .before .before) .args .words .now)) (begin
+    (c .before .before .before .before .before) .args .first .now)
+    (begin (c .before .before .before .before .before) .args .columns) (begin (c .before .before .before .before .before) .args .load .now)
+    (c .before .before .before .before .before .before .loop .delay) (c .before .before .before .gate-at .result) (c .wide .result)
+    (c .before .before .before .before .before .before .loop .j)
+here c =
+    let i = c .before .before .before .before .before in
+    let s = begin i .pre in
+    delay-turn (held-accepted (s .0 .1)) (s .3) (i .before .loop .inv .0) (inside i) (stages-here i .layer-is (c .wide .ensures))
+    (rw (c .before .before .before .before .node-at .ensures) at (c .before .before .before .gate-at .ensures))
 
 loop-holds : tie.Need-loop-holds Inv-loop μ-loop
-loop-holds c = delaying-start _ (c .before .before .before .before .before .pre .3)
+loop-holds c = (delaying-start _ _ (c .before .before .before .before .before .pre .4), refl)
 
 node-at-requires : tie.Need-node-at-requires Inv-loop μ-loop
-node-at-requires c κs = (begin c .args .nodes, begin c .pre .0, c .before .loop .inv .some, c .loop-test .taken)
+node-at-requires c κs = let s = begin c .pre in (_, _, s .0 .1, c .before .loop .inv .0 .some, c .loop-test .taken)
 
-start-requires : tie.Need-start-requires Inv-loop μ-loop
-start-requires c κs =
-    let t = here (c .before .before) in
-    let s = begin (c .before .before) in
-    rw (c .before .node-at .ensures) ((s .args .nodes, s .pre .0, c .before .before .loop-test .taken, t .parent-lower), t .parent-row, t .own-row)
+gate-at-requires : tie.Need-gate-at-requires Inv-loop μ-loop
+gate-at-requires c κs =
+    let s = begin (c .before) .pre in
+    rw (c .node-at .ensures) (
+      _,
+      _,
+      s .0 .1,
+      omega (
+        arith,
+        held-accepted (s .0 .1) .parent-lower (c .before .before .loop .j)
+            (c .before .before .loop .inv .0 .some),
+        c .before .loop-test .taken,
+      ),
+    )
 
-add-edge-requires : tie.Need-add-edge-requires Inv-loop μ-loop
-add-edge-requires c κs =
-    let t = here (c .before .before .before .before .before .before) in
-    let e = c .before .before .before .before .before .node-at .ensures in
-    rw e (t .edge, t .started (rw e at (c .before .before .before .start .ensures)))
+mul-wide : tie.Need-mul-wide Inv-loop μ-loop
+mul-wide c = omega (arith, held-accepted (begin (c .before .before) .pre .0 .1) .few-nodes, inside (c .before .before))
+
+shared-slice-read-wide : tie.Need-shared-slice-read-wide Inv-loop μ-loop
+shared-slice-read-wide c = stages-here (c .before .before .before) .node-in
+
+shared-slice-read-wide-2 : tie.Need-shared-slice-read-wide-2 Inv-loop μ-loop
+shared-slice-read-wide-2 c = stages-here (c .before .before .before .before) .stage-in
+
+wide-requires : tie.Need-wide-requires Inv-loop μ-loop
+wide-requires c κs = search needs
+
+set-delays-requires : tie.Need-set-delays-requires Inv-loop μ-loop
+set-delays-requires c κs =
+    let t = here (c .before) in
+    let s = begin (c .before .before .before .before .before .before) .pre in
+    rw (c .before .before .before .before .before .node-at .ensures) (
+      (
+        _,
+        _,
+        s .0 .1,
+        omega (
+          arith,
+          s .0 .1 .layers-are,
+          stages-here
+              (c .before .before .before .before .before .before) .layer-in (c .before .wide .ensures),
+        ),
+      ),
+      t .gate-in,
+      t .parent-row,
+      t .upper-row,
+      t .parent-lower,
+      t .own-row,
+      t .edge,
+    )
 
 add-j : tie.Need-add-j Inv-loop μ-loop
-add-j c = let t = here (c .before .before .before .before .before .before .before .before .before) in omega (arith, t .own-row .node-in)
+add-j c =
+    omega (
+      arith,
+      held-accepted (begin (c .before .before .before .before .before .before .before .before .before) .pre .0 .1) .few-nodes,
+      inside
+          (c .before .before .before .before .before .before .before .before .before),
+    )
 
 loop-less : tie.Need-loop-less Inv-loop μ-loop
 loop-less c = search needs
 
 loop-again : tie.Need-loop-again Inv-loop μ-loop
 loop-again c =
-    let t = here (c .before .before .before .before .before .before .before .before .before) in
-    let e = c .before .before .before .before .before .before .before .before .node-at .ensures in
-    t .onward (rw e at (c .before .before .before .before .before .before .start .ensures)) (rw e at (c .before .before .add-edge .ensures))
+    let F = rw (c .before .before .before .before .before .before .before .before .node-at .ensures) at (c .before .before .set-delays .ensures) in (
+      here (c .before .before .before .before) .onward F,
+      F .long ∙
+          c .before .before .before .before .before .before .before .before .before .before .loop .inv .1,
+    )
 
 same-length : tie.Need-same-length Inv-loop μ-loop
-same-length c = omega (arith, c .before .before .before .before .before .before .before .pre .3, c .before .loop .inv .long)
+same-length c = c .before .loop .inv .1
 
 returns : tie.Need-returns Inv-loop μ-loop
-returns c = delaying-end (c .before .loop .inv) (omega (arith, c .before .before .before .before .before .before .before .pre .0 .nodes-are, c .loop-test .left))
+returns c =
+    delaying-end (c .before .loop .inv .0) (omega (
+      arith,
+      c .before .before .before .before .before .before .before .pre .0 .1 .nodes-are,
+      c .loop-test .left,
+    ))
 
 pub delays-spec : {M : Type 1} → statement M
 delays-spec =
@@ -69,8 +141,12 @@ delays-spec =
     μ-loop
     loop-holds
     node-at-requires
-    start-requires
-    add-edge-requires
+    gate-at-requires
+    mul-wide
+    shared-slice-read-wide
+    shared-slice-read-wide-2
+    wide-requires
+    set-delays-requires
     add-j
     loop-less
     loop-again

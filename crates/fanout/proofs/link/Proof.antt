@@ -1,24 +1,24 @@
--- `link` is right: the stages from j on are linked, and a stage of lower number comes in front of them.
+-- `link` is right: those from j on are linked, and one of lower number comes in front of them.
 use borrow.Author.Needs.{needs}
 use Prim.Native.Nat.{_-_, _<_}
 use native.Mathlib.Omega.{arith}
 use lib.ListN.{length, getD}
-use Rattle.fanout.proofs.Links.{Linking, still-room, linking-start, driver-inside, linking-more, linking-end}
+use Rattle.fanout.proofs.Links.{Linking, still-room, linking-start, owner-inside, linking-more, linking-end}
 use Rattle.fanout.proofs.link.Statement.{statement}
 use Rattle.fanout.proofs.link.Tie as tie
 
 abbrev Inv-loop : tie.InvT-loop
-Inv-loop driver stages first₀ next₀ j₀ first next j = Linking driver first₀ next₀ stages first next j
+Inv-loop owner count first₀ next₀ j₀ first next j = Linking owner first₀ next₀ count first next j
 
 abbrev μ-loop : tie.MeasureT-loop
-μ-loop driver stages first₀ next₀ j₀ first next j = j
+μ-loop owner count first₀ next₀ j₀ first next j = j
 
 abbrev begin : tie.In-loop Inv-loop μ-loop → tie.Start Inv-loop μ-loop
 begin c = c .before .before .before .before .before .before .before .before .before
 
--- The stage that drives stage j - 1 has its place in `first`.
-driver-in : (c : tie.In-loop Inv-loop μ-loop) → getD (begin c .args .driver .now) (c .before .loop .j - 1) 0 < length (c .before .loop .first)
-driver-in c = driver-inside (still-room (begin c .pre) (c .before .before .before .before .unlink .ensures)) (c .before .loop .inv) (omega arith)
+-- What j - 1 belongs to has its place in `first`.
+owner-in : (c : tie.In-loop Inv-loop μ-loop) → getD (begin c .args .owner .now) (c .before .loop .j - 1) 0 < length (c .before .loop .first)
+owner-in c = owner-inside (still-room (begin c .pre) (c .before .before .before .before .unlink .ensures)) (c .before .loop .inv) (omega arith)
 
 unlink-requires : tie.Need-unlink-requires Inv-loop μ-loop
 unlink-requires c κs = search needs
@@ -36,10 +36,10 @@ shared-slice-read-i : tie.Need-shared-slice-read-i Inv-loop μ-loop
 shared-slice-read-i c = search needs
 
 mul-next : tie.Need-mul-next Inv-loop μ-loop
-mul-next c = let n = driver-in (c .before) in omega arith
+mul-next c = let n = owner-in (c .before) in omega arith
 
 slice-read-next : tie.Need-slice-read-next Inv-loop μ-loop
-slice-read-next c = let n = driver-in (c .before .before) in omega arith
+slice-read-next c = let n = owner-in (c .before .before) in omega arith
 
 mul-next-2 : tie.Need-mul-next-2 Inv-loop μ-loop
 mul-next-2 c = search needs
@@ -48,17 +48,18 @@ slice-write-next : tie.Need-slice-write-next Inv-loop μ-loop
 slice-write-next c = search needs
 
 mul-first : tie.Need-mul-first Inv-loop μ-loop
-mul-first c = let n = driver-in (c .before .before) in omega arith
+mul-first c = let n = owner-in (c .before .before) in omega arith
 
 slice-write-first : tie.Need-slice-write-first Inv-loop μ-loop
-slice-write-first c = driver-in (c .before .before)
+slice-write-first c = owner-in (c .before .before)
 
 loop-less : tie.Need-loop-less Inv-loop μ-loop
 loop-less c = search needs
 
 loop-again : tie.Need-loop-again Inv-loop μ-loop
 loop-again c =
-    let I = still-room (c .before .before .before .before .before .before .before .before .before .before .before .pre) (c .before .before .before .before .before .before .unlink .ensures) in
+    let I = still-room (c .before .before .before .before .before .before .before .before .before .before .before .pre)
+    (c .before .before .before .before .before .before .unlink .ensures) in
     let L = c .before .before .before .loop .inv in
     linking-more I L (omega arith)
 

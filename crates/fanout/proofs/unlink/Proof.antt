@@ -1,4 +1,4 @@
--- `unlink` is right: none of the stages before i drives any.
+-- `unlink` is right: to none of those before i belongs any.
 use borrow.Author.Needs.{needs}
 use Prim.Native.Nat.{_-_}
 use native.Mathlib.Omega.{arith}
@@ -8,10 +8,10 @@ use Rattle.fanout.proofs.unlink.Statement.{statement}
 use Rattle.fanout.proofs.unlink.Tie as tie
 
 abbrev Inv-loop : tie.InvT-loop
-Inv-loop stages first₀ i₀ first i = Unlinked first₀ first stages i
+Inv-loop count first₀ i₀ first i = Unlinked first₀ first count i
 
 abbrev μ-loop : tie.MeasureT-loop
-μ-loop stages first₀ i₀ first i = stages - i
+μ-loop count first₀ i₀ first i = count - i
 
 loop-holds : tie.Need-loop-holds Inv-loop μ-loop
 loop-holds c = unlinked-start

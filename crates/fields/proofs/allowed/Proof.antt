@@ -24,7 +24,12 @@ returns-2 c = simp (c .before .before .enum-told .given .1, eq-eqb _ _ (c .befor
 returns-3 : tie.Need-returns-3
 unfolding dueLayers
 returns-3 c =
-    simp (c .before .before .before .enum-told .given .1, eq-eqb _ _ (c .before .before .if1 .left), le-leb _ _ (c .before .if2 .left), lt-leb _ _ (c .if3 .taken))
+    simp (
+      c .before .before .before .enum-told .given .1,
+      eq-eqb _ _ (c .before .before .if1 .left),
+      le-leb _ _ (c .before .if2 .left),
+      lt-leb _ _ (c .if3 .taken),
+    )
 
 enum-told-2 : tie.Need-enum-told-2
 enum-told-2 c = search needs
@@ -59,7 +64,12 @@ add-result-2 c = omega (arith, kind-size-le (c .before .before .before .before .
 returns-7 : tie.Need-returns-7
 unfolding dueLayers
 returns-7 c =
-    simp (c .before .before .before .enum-told .given .1, eq-eqb _ _ (c .before .before .if1 .left), le-leb _ _ (c .before .if2 .left), le-leb _ _ (c .if3 .left))
+    simp (
+      c .before .before .before .enum-told .given .1,
+      eq-eqb _ _ (c .before .before .if1 .left),
+      le-leb _ _ (c .before .if2 .left),
+      le-leb _ _ (c .if3 .left),
+    )
 
 returns-8 : tie.Need-returns-8
 unfolding dueDriver

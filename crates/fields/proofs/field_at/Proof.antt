@@ -26,6 +26,9 @@ add-number c = search needs
 number-requires-2 : tie.Need-number-requires-2
 number-requires-2 c κs = search needs
 
+cast-size : tie.Need-cast-size
+cast-size c = search needs
+
 allowed-requires : tie.Need-allowed-requires
 allowed-requires c κs = search needs
 
@@ -42,7 +45,8 @@ returns-2 c =
 
 returns-3 : tie.Need-returns-3
 returns-3 c =
-    sym (field-cut _ _ _ (c .before .before .before .before .number .ensures) (c .before .before .before .number2 .ensures) (c .before .before .allowed .ensures) (omega arith)
+    sym (field-cut _ _ _ (c .before .before .before .before .number .ensures) (c .before .before .before .number2 .ensures)
+    (c .before .before .allowed .ensures) (omega arith)
     (not-false _ (c .before .if2 .left)) (not-true _ (c .if3 .taken)))
 
 add-t13 : tie.Need-add-t13
@@ -50,7 +54,8 @@ add-t13 c = search needs
 
 returns-4 : tie.Need-returns-4
 returns-4 c =
-    sym (field-took _ _ _ (c .before .before .before .before .number .ensures) (c .before .before .before .number2 .ensures) (c .before .before .allowed .ensures) (omega arith)
+    sym (field-took _ _ _ (c .before .before .before .before .number .ensures) (c .before .before .before .number2 .ensures)
+    (c .before .before .allowed .ensures) (omega arith)
     (not-false _ (c .before .if2 .left)) (not-false _ (c .if3 .left)))
 
 pub field-at-spec : {M : Type 1} → statement M
@@ -62,6 +67,7 @@ field-at-spec =
     number-requires
     add-number
     number-requires-2
+    cast-size
     allowed-requires
     sub-there
     sub-there-2

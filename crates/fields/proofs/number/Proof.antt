@@ -4,7 +4,7 @@ use Prim.Native.Nat.{_≤_, _<_, _-_, _+_, _^_}
 use mathlib.Core.Path.{_≡_}
 use native.Mathlib.Omega.{arith}
 use Rattle.rules.specs.Bytes.{number}
-use Rattle.fields.proofs.Laws.{byte-room, byte-more, number-more}
+use Rattle.fields.proofs.Laws.{number-room, byte-more, number-more}
 use Rattle.fields.proofs.number.Statement.{statement}
 use Rattle.fields.proofs.number.Tie as tie
 use Rattle.fields.proofs.number.Reads as reads
@@ -21,7 +21,7 @@ unfolding number
 loop-holds c = search needs
 
 mul-x : tie.Need-mul-x Inv-loop μ-loop
-mul-x c = let r = byte-room _ _ _ (c .before .loop .inv .2) (c .loop-test .taken) (c .before .before .pre .0) in omega arith
+mul-x c = let r = number-room _ _ _ (c .before .loop .inv .2) (c .loop-test .taken) (c .before .before .pre .0) in omega arith
 
 add-x : tie.Need-add-x Inv-loop μ-loop
 add-x c = search needs
@@ -34,7 +34,7 @@ cast-x c = omega (arith, c .shared-slice-known .given (c .before .before .before
 
 add-x-2 : tie.Need-add-x-2 Inv-loop μ-loop
 add-x-2 c =
-    let r = byte-room _ _ _ (c .before .before .loop .inv .2) (c .before .loop-test .taken) (c .before .before .before .pre .0) in
+    let r = number-room _ _ _ (c .before .before .loop .inv .2) (c .before .loop-test .taken) (c .before .before .before .pre .0) in
     omega (arith, c .shared-slice-known .given (c .before .before .before .args .at + c .before .before .loop .k))
 
 add-k : tie.Need-add-k Inv-loop μ-loop
@@ -47,7 +47,8 @@ loop-again : tie.Need-loop-again Inv-loop μ-loop
 loop-again c = (
   omega arith,
   number-more _ _ _ _ (c .before .before .loop .inv .1),
-  byte-more _ _ _ (c .before .before .loop .inv .2) (omega (arith, c .shared-slice-known .given (c .before .before .before .args .at + c .before .before .loop .k))),
+  byte-more _ _ _ (c .before .before .loop .inv .2)
+      (omega (arith, c .shared-slice-known .given (c .before .before .before .args .at + c .before .before .loop .k))),
 )
 
 returns : tie.Need-returns Inv-loop μ-loop

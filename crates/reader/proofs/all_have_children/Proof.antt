@@ -3,7 +3,6 @@ use borrow.Author.Needs.{needs}
 use Prim.Native.Nat.{_≤_, _-_, _+_}
 use mathlib.Core.Path.{_≡_, sym, _∙_}
 use native.Mathlib.Omega.{arith}
-use borrow.Author.Tests.{le-leb, lt-leb}
 use Rattle.laws.specs.Lists.{scan, scan-no, scan-more, scan-end}
 use Rattle.reader.specs.Nodes.{wholeFor}
 use Rattle.reader.proofs.Whole.{childTest, whole-scan, child-some, child-none}

@@ -1,13 +1,19 @@
--- `node_at` is right: it reads the field and then makes the definition's tests in their order, 4, 3, 5.
+-- `node_at` is right: it makes the definition's tests in their order, 4, 3, 5; where there is room, the node has a row.
 use borrow.Author.Needs.{needs}
 use mathlib.Core.Path.{_≡_, sym, ap, _∙_}
+use mathlib.Core.Bool.{true}
+use Prim.Native.Nat.{_+_, _≤_, _<_}
 use native.Mathlib.Omega.{arith}
+use lib.ListN.{length}
 use borrow.Author.Tests.{not-true, not-false}
 use Rattle.rules.specs.Bytes.{Field, dueNode}
-use Rattle.rules.specs.Reading.{field, accept, refuse}
+use Rattle.rules.specs.Reading.{field, accept}
 use Rattle.fields.specs.Fields.{foundField, foundRefusal}
 use Rattle.fields.proofs.Laws.{field-inside}
-use Rattle.reader.proofs.Steps.{node-ends, step-none, step-4, step-3, step-5, step-took}
+use Rattle.words.specs.Words.{rowAt}
+use Rattle.reader.specs.Nodes.{roomFor}
+use Rattle.reader.proofs.Stored.{row-fits}
+use Rattle.reader.proofs.Steps.{room-count, node-ends, step-none, step-4, step-3, step-5, step-put}
 use Rattle.reader.proofs.node_at.Statement.{statement}
 use Rattle.reader.proofs.node_at.Tie as tie
 use Rattle.reader.proofs.node_at.Reads as reads
@@ -17,16 +23,31 @@ use Rattle.fields.proofs.found_refusal.Reads as found-refusal-reads
 use Rattle.reader.proofs.has_room.Reads as has-room-reads
 use Rattle.reader.proofs.in_ranges.Reads as in-ranges-reads
 use Rattle.reader.proofs.may_have_child.Reads as may-have-child-reads
-use Rattle.reader.proofs.node_of.Reads as node-of-reads
+use Rattle.reader.proofs.row_for.Reads as row-for-reads
+use Rattle.words.proofs.node_in.Reads as node-in-reads
+use Rattle.words.proofs.put_node.Reads as put-node-reads
+
+-- where the call begins
+abbrev start : tie.After-known-told → tie.Start
+start c = c .before .before .before .before .before .before .before
 
 -- the field that was taken
 abbrev taken : tie.After-known-told → Field
 taken c = record { tag = c .before .found .given .0 .0; start = c .before .found .given .0 .1 .0; size = c .before .found .given .0 .1 .1 .0 }
 
-known : (c : tie.After-known-told)
-    → field (dueNode (c .before .before .before .before .before .before .args .layers)) (c .before .before .before .before .before .before .args .net .now) (c .before .before .before .before .before .before .args .at)
-    ≡ accept (taken c)
+known : (c : tie.After-known-told) → field (dueNode (start c .args .layers)) (start c .args .net .now) (start c .args .at) ≡ accept (taken c)
 known c = sym (c .before .before .before .field-at .ensures) ∙ ap foundField (c .before .found .given .1)
+
+ends : (c : tie.After-known-told) → taken c .start + taken c .size < 18446744073709551616
+ends c = let h = field-inside _ _ _ (known c) in omega arith
+
+-- the room for it, and its row
+room : (c : tie.Else1) → roomFor (start (c .before .before) .args .count) (start (c .before .before) .args .buffers) (taken (c .before .before) .tag) ≡ true
+room c = sym (c .before .has-room .ensures) ∙ not-false _ (c .if1 .left)
+
+fits : (c : tie.After-row-for) → rowAt (c .row-for .result + 1) ≤ length (start (c .before .before .before) .args .words .now)
+fits c = row-fits (start (c .before .before .before) .args .keep) (start (c .before .before .before) .pre .3) (room-count _ _ _ (room (c .before)))
+    (c .row-for .ensures)
 
 field-at-requires : tie.Need-field-at-requires
 field-at-requires c κs = search needs
@@ -42,47 +63,74 @@ found-refusal-requires c κs = search needs
 
 returns : tie.Need-returns
 returns c =
-    ap refuse (c .found-refusal .ensures ∙ ap foundRefusal (c .before .enum-told .given .1)) ∙
-    sym (step-none _ _ _ _ _ _ (sym (c .before .before .before .field-at .ensures) ∙ ap foundField (c .before .enum-told .given .1)))
-
-node-of-requires : tie.Need-node-of-requires
-node-of-requires c κs = (search needs, node-ends _ _ _ (known c))
+    step-none _ _ _ _ _ _ _ _ _ (c .found-refusal .ensures ∙ ap foundRefusal (c .before .enum-told .given .1))
+    (sym (c .before .before .before .field-at .ensures) ∙ ap foundField (c .before .enum-told .given .1))
 
 has-room-requires : tie.Need-has-room-requires
 has-room-requires c κs = search needs
 
-in-ranges-requires : tie.Need-in-ranges-requires
-in-ranges-requires c κs = let h = node-ends _ _ _ (known (c .before .before)) in omega arith
-
-may-have-child-requires : tie.Need-may-have-child-requires
-may-have-child-requires c κs = search needs
-
 returns-2 : tie.Need-returns-2
-returns-2 c =
-    sym (step-4 _ _ _ _ _ _ (known (c .before .before .before .before .before)) (c .before .before .before .before .node-of .ensures)
-    (c .before .before .before .has-room .ensures) (c .before .before .in-ranges .ensures) (c .before .may-have-child .ensures)
-    (not-true _ (c .if1 .taken)))
+returns-2 c = step-4 _ _ _ _ _ _ _ _ _ (known (c .before .before)) (sym (c .before .has-room .ensures) ∙ not-true _ (c .if1 .taken))
+
+row-for-requires : tie.Need-row-for-requires
+row-for-requires c κs = room-count _ _ _ (room c)
+
+put-node-requires : tie.Need-put-node-requires
+put-node-requires c κs = (
+  c .before .before .before .before .before .before .before .before .before .before .before .pre .0,
+  node-ends _ _ _ (known (c .before .before .before .before)),
+  fits (c .before),
+)
+
+node-in-requires : tie.Need-node-in-requires
+node-in-requires c κs = omega (arith, fits (c .before .before .before .before .before), c .before .before .before .put-node .kept .1 .1 .1 .1 .1 .0)
+
+in-ranges-requires : tie.Need-in-ranges-requires
+in-ranges-requires c κs = search needs
+
+same-length : tie.Need-same-length
+same-length c = search needs
 
 returns-3 : tie.Need-returns-3
 returns-3 c =
-    sym (step-3 _ _ _ _ _ _ (known (c .before .before .before .before .before .before)) (c .before .before .before .before .before .node-of .ensures)
-    (c .before .before .before .before .has-room .ensures) (c .before .before .before .in-ranges .ensures) (c .before .before .may-have-child .ensures)
-    (not-false _ (c .before .if1 .left)) (not-true _ (c .if2 .taken)))
+    step-3 _ _ _ _ _ _ _ _ _ (known (c .before .before .before .before .before .before .before .before .before .before .before))
+    (room (c .before .before .before .before .before .before .before .before .before))
+    (c .before .before .before .before .before .before .before .before .row-for .ensures)
+    (c .before .before .before .before .before .before .put-node .ensures) (c .before .before .node-in .ensures) (c .before .in-ranges .ensures)
+    (not-true _ (c .if2 .taken))
+
+may-have-child-requires : tie.Need-may-have-child-requires
+may-have-child-requires c κs = (
+  omega (arith, room-count _ _ _ (room (c .before .before .before .before .before .before .before .before .before))),
+  c .before .before .before .before .before .before .before .before .before .before .before .before .before .before .before .before .before .before .pre .2,
+)
+
+same-length-2 : tie.Need-same-length-2
+same-length-2 c = search needs
 
 returns-4 : tie.Need-returns-4
 returns-4 c =
-    sym (step-5 _ _ _ _ _ _ (known (c .before .before .before .before .before .before .before)) (c .before .before .before .before .before .before .node-of .ensures)
-    (c .before .before .before .before .before .has-room .ensures) (c .before .before .before .before .in-ranges .ensures) (c .before .before .before .may-have-child .ensures)
-    (not-false _ (c .before .before .if1 .left)) (not-false _ (c .before .if2 .left)) (not-true _ (c .if3 .taken)))
+    step-5 _ _ _ _ _ _ _ _ _ (known (c .before .before .before .before .before .before .before .before .before .before .before .before .before))
+    (room (c .before .before .before .before .before .before .before .before .before .before .before))
+    (c .before .before .before .before .before .before .before .before .before .before .row-for .ensures)
+    (c .before .before .before .before .before .before .before .before .put-node .ensures) (c .before .before .before .before .node-in .ensures)
+    (c .before .before .before .in-ranges .ensures) (c .before .may-have-child .ensures) (not-false _ (c .before .before .if2 .left))
+    (not-true _ (c .if3 .taken))
 
-add-t20 : tie.Need-add-t20
-add-t20 c = let h = field-inside _ _ _ (known (c .before .before .before .before .before .before .before)) in omega arith
+add-t25 : tie.Need-add-t25
+add-t25 c = omega (arith, ends (c .before .before .before .before .before .before .before .before .before .before .before .before .before))
+
+same-length-3 : tie.Need-same-length-3
+same-length-3 c = search needs
 
 returns-5 : tie.Need-returns-5
 returns-5 c =
-    sym (step-took _ _ _ _ _ _ (known (c .before .before .before .before .before .before .before)) (c .before .before .before .before .before .before .node-of .ensures)
-    (c .before .before .before .before .before .has-room .ensures) (c .before .before .before .before .in-ranges .ensures) (c .before .before .before .may-have-child .ensures)
-    (not-false _ (c .before .before .if1 .left)) (not-false _ (c .before .if2 .left)) (not-false _ (c .if3 .left)))
+    step-put _ _ _ _ _ _ _ _ _ (known (c .before .before .before .before .before .before .before .before .before .before .before .before .before))
+    (room (c .before .before .before .before .before .before .before .before .before .before .before))
+    (c .before .before .before .before .before .before .before .before .before .before .row-for .ensures)
+    (c .before .before .before .before .before .before .before .before .put-node .ensures) (c .before .before .before .before .node-in .ensures)
+    (c .before .before .before .in-ranges .ensures) (c .before .may-have-child .ensures) (not-false _ (c .before .before .if2 .left))
+    (not-false _ (c .if3 .left))
 
 pub node-at-spec : {M : Type 1} → statement M
 node-at-spec =
@@ -93,12 +141,17 @@ node-at-spec =
     enum-told
     found-refusal-requires
     returns
-    node-of-requires
     has-room-requires
-    in-ranges-requires
-    may-have-child-requires
     returns-2
+    row-for-requires
+    put-node-requires
+    node-in-requires
+    in-ranges-requires
+    same-length
     returns-3
+    may-have-child-requires
+    same-length-2
     returns-4
-    add-t20
+    add-t25
+    same-length-3
     returns-5)

@@ -1,12 +1,11 @@
 -- `nodes_from` is right: at each turn the arrays stand for the nodes read so far, and the definition from here on gives the answer of the whole.
 use borrow.Author.Needs.{needs}
 use Prim.Native.Nat.{_-_}
-use mathlib.Core.Path.{_≡_, sym, ap, _∙_}
+use mathlib.Core.Path.{sym, ap, _∙_}
 use native.Mathlib.Omega.{arith}
 use lib.ListN.{length, length-set}
 use Rattle.laws.specs.Booleans.{bit-le}
 use Rattle.rules.specs.Tree.{isSink}
-use Rattle.rules.specs.Reading.{refuse}
 use Rattle.reader.specs.Nodes.{Taken, stepTaken, stepRefusal}
 use Rattle.reader.proofs.Loop.{Going, Turn, going-start, going-took, going-no, nodes-refused, nodes-read}
 use Rattle.reader.proofs.nodes_from.Statement.{statement}
@@ -19,24 +18,41 @@ use Rattle.reader.proofs.sink_places.Reads as sink-places-reads
 use Rattle.reader.proofs.step_refusal.Reads as step-refusal-reads
 
 abbrev Inv-loop : tie.InvT-loop
-Inv-loop net first layers heads₀ kids₀ at₀ count₀ buffers₀ heads kids at count buffers = Going net layers first heads kids at count buffers
+Inv-loop net first layers keep words₀ kids₀ at₀ count₀ buffers₀ words kids at count buffers = Going net layers first keep words₀ words kids at count buffers
 
 abbrev μ-loop : tie.MeasureT-loop
-μ-loop net first layers heads₀ kids₀ at₀ count₀ buffers₀ heads kids at count buffers = length net - at
+μ-loop net first layers keep words₀ kids₀ at₀ count₀ buffers₀ words kids at count buffers = length net - at
+
+-- where the call and the turn begin
+abbrev start : tie.After-known-told Inv-loop μ-loop → tie.Start Inv-loop μ-loop
+start c = c .before .before .before .before .before .before .before .before .before .before .before .before .before
+
+abbrev top : tie.After-known-told Inv-loop μ-loop → tie.At-loop Inv-loop μ-loop
+top c = c .before .before .before .before .before .before .before .before .before
 
 -- what a step that was taken leaves
 abbrev taken : tie.After-known-told Inv-loop μ-loop → Taken
 taken c = record { node = c .before .step .given .0 .0; next = c .before .step .given .0 .1 .0 }
 
 turn : (c : tie.After-known-told Inv-loop μ-loop)
-    → Turn (c .before .before .before .before .before .before .before .before .before .before .args .net .now) (c .before .before .before .before .before .before .before .before .before .before .args .layers) (c .before .before .before .before .before .before .before .before .before .before .args .first) (c .before .before .before .before .before .before .loop .heads) (c .before .before .before .before .before .before .loop .kids) (c .before .before .before .before .before .before .loop .at) (c .before .before .before .before .before .before .loop .count) (c .before .before .before .before .before .before .loop .buffers) (taken c)
-turn c = going-took (c .before .before .before .before .before .before .loop .inv) (c .before .before .before .before .before .loop-test .taken) (sym (ap stepTaken (c .before .step .given .1)) ∙ c .before .before .before .node-at .ensures)
+    → Turn (start c .args .net .now) (start c .args .layers) (start c .args .first) (start c .args .keep) (start c .args .words .now) (top c .loop .words)
+    (top c .loop .kids) (top c .loop .at) (top c .loop .count) (top c .loop .buffers) (taken c)
+    (c .before .before .before .before .before .node-at .last .1 .1 .1 .1 .1 .1 .1 .0)
+turn c = going-took (top c .loop .inv) (c .before .before .before .before .before .before .before .before .loop-test .taken)
+    (c .before .before .before .before .before .node-at .ensures) (sym (ap stepTaken (c .before .step .given .1)))
+    (c .before .before .before .before .before .node-at .kept .1 .1 .1 .1 .1 .1 .1 .0)
 
 loop-holds : tie.Need-loop-holds Inv-loop μ-loop
-loop-holds c = going-start _ _ _ (c .before .before .before .pre .1) (c .before .before .before .pre .2) (c .before .before .before .pre .3)
+loop-holds c = going-start _ _ _ (c .before .before .before .pre .1) (c .before .before .before .pre .2) (c .before .before .before .pre .0)
+    (c .before .before .before .pre .3)
 
 node-at-requires : tie.Need-node-at-requires Inv-loop μ-loop
-node-at-requires c κs = search needs
+node-at-requires c κs = (
+  c .before .before .before .before .before .before .before .pre .0,
+  c .before .before .before .loop .inv .inside,
+  c .before .before .before .loop .inv .kids-long,
+  c .before .before .before .loop .inv .rows,
+)
 
 enum-known-step : tie.Need-enum-known-step Inv-loop μ-loop
 enum-known-step c = search needs
@@ -48,15 +64,22 @@ step-refusal-requires : tie.Need-step-refusal-requires Inv-loop μ-loop
 step-refusal-requires c κs = search needs
 
 same-length : tie.Need-same-length Inv-loop μ-loop
-same-length c = omega (arith, c .before .before .before .before .before .before .before .before .before .before .pre .2, c .before .before .before .before .before .before .loop .inv .heads-long)
+same-length c = c .before .before .before .before .before .node-at .kept .1 .1 .1 .1 .1 .1 .1 .0 ∙
+    c .before .before .before .before .before .before .before .before .before .loop .inv .same-size
 
 same-length-2 : tie.Need-same-length-2 Inv-loop μ-loop
-same-length-2 c = omega (arith, ap length (c .before .before .before .before .before .before .before .before .before .before .pre .3), c .before .before .before .before .before .before .loop .inv .kids-long)
+same-length-2 c = omega (
+  arith,
+  ap length (c .before .before .before .before .before .before .before .before .before .before .before .before .before .pre .3),
+  c .before .before .before .before .before .before .before .before .before .loop .inv .kids-long,
+)
 
 returns : tie.Need-returns Inv-loop μ-loop
 returns c =
-    nodes-refused _ _ _ _ _ (c .step-refusal .ensures ∙ ap stepRefusal (c .before .enum-told .given .1))
-    (going-no (c .before .before .before .before .before .before .loop .inv) (c .before .before .before .before .before .loop-test .taken) (sym (ap stepTaken (c .before .enum-told .given .1)) ∙ c .before .before .before .node-at .ensures))
+    nodes-refused _ _ _ _ _ _ _ (c .step-refusal .ensures ∙ ap stepRefusal (c .before .enum-told .given .1))
+    (going-no (c .before .before .before .before .before .before .before .before .before .loop .inv)
+    (c .before .before .before .before .before .before .before .before .loop-test .taken)
+    (sym (ap stepTaken (c .before .enum-told .given .1)) ∙ c .before .before .before .before .before .node-at .ensures .answer))
 
 mul-kids : tie.Need-mul-kids Inv-loop μ-loop
 mul-kids c = let t = turn c in omega arith
@@ -88,12 +111,6 @@ add-kids-2 c = let t = turn (c .before .before .before) in omega (arith, bit-le 
 slice-write-kids-2 : tie.Need-slice-write-kids-2 Inv-loop μ-loop
 slice-write-kids-2 c = let t = turn (c .before .before .before) in simp length-set (omega arith)
 
-mul-heads : tie.Need-mul-heads Inv-loop μ-loop
-mul-heads c = let t = turn (c .before .before .before) in omega arith
-
-slice-write-heads : tie.Need-slice-write-heads Inv-loop μ-loop
-slice-write-heads c = let t = turn (c .before .before .before) in omega arith
-
 buffer-bit-requires : tie.Need-buffer-bit-requires Inv-loop μ-loop
 buffer-bit-requires c κs = search needs
 
@@ -107,13 +124,13 @@ loop-again : tie.Need-loop-again Inv-loop μ-loop
 loop-again c = rw (c .before .before .sink-places .ensures, c .buffer-bit .ensures) (turn (c .before .before .before .before) .onward)
 
 same-length-3 : tie.Need-same-length-3 Inv-loop μ-loop
-same-length-3 c = omega (arith, c .before .before .before .before .before .pre .2, c .before .loop .inv .heads-long)
+same-length-3 c = c .before .loop .inv .same-size
 
 same-length-4 : tie.Need-same-length-4 Inv-loop μ-loop
 same-length-4 c = omega (arith, ap length (c .before .before .before .before .before .pre .3), c .before .loop .inv .kids-long)
 
 returns-2 : tie.Need-returns-2 Inv-loop μ-loop
-returns-2 c = nodes-read _ _ _ _ _ (c .before .loop .inv) (c .loop-test .left)
+returns-2 c = nodes-read _ _ _ _ _ _ _ (c .before .loop .inv) (c .loop-test .left)
 
 pub nodes-from-spec : {M : Type 1} → statement M
 nodes-from-spec =
@@ -139,8 +156,6 @@ nodes-from-spec =
     slice-read-kids-2
     add-kids-2
     slice-write-kids-2
-    mul-heads
-    slice-write-heads
     buffer-bit-requires
     add-buffers
     loop-less

@@ -1,6 +1,5 @@
 -- `tree_from` is right: the loop's array stands for the nodes read, so the test over it is the definition's last test.
 use borrow.Author.Needs.{needs}
-use mathlib.Core.Path.{_≡_}
 use borrow.Author.Tests.{not-true, not-false}
 use Rattle.reader.proofs.Whole.{LoopGave, loop-gave, tree-refused, tree-childless, tree-took}
 use Rattle.reader.proofs.tree_from.Statement.{statement}
@@ -10,8 +9,15 @@ use Rattle.reader.proofs.tree_from.Lts as lts
 use Rattle.reader.proofs.all_have_children.Reads as all-have-children-reads
 use Rattle.reader.proofs.nodes_from.Reads as nodes-from-reads
 
+-- where the call begins
+abbrev start : tie.After-known-told → tie.Start
+start c = c .before .before .before .before .before .before .before .before .before .before .before
+
+-- what the loop gave
 gave : (c : tie.After-known-told)
-    → LoopGave (c .before .before .before .before .before .before .before .before .before .before .before .args .net .now) (c .before .before .before .before .before .before .before .before .before .before .before .args .layers) (c .before .before .before .before .before .before .before .before .before .before .before .args .first) (c .before .nodes .given .0 .0) (c .before .nodes .given .0 .1 .0) (c .before .before .before .before .before .before .nodes-from .last .1 .1 .1 .0) (c .before .before .before .before .before .before .nodes-from .last .1 .1 .1 .1 .0)
+    → LoopGave (start c .args .net .now) (start c .args .layers) (start c .args .first) (start c .args .keep) (c .before .nodes .given .0 .0)
+    (c .before .nodes .given .0 .1 .0) (start c .args .words .now) (c .before .before .before .before .before .before .nodes-from .last .1 .1 .1 .1 .0)
+    (c .before .before .before .before .before .before .nodes-from .last .1 .1 .1 .1 .1 .0)
 gave c = loop-gave (rw (c .before .nodes .given .1) at (c .before .before .before .before .before .before .nodes-from .ensures))
 
 slice-aggregate-nodes-from : tie.Need-slice-aggregate-nodes-from
@@ -36,7 +42,7 @@ slice-aggregate-all-have-children : tie.Need-slice-aggregate-all-have-children
 slice-aggregate-all-have-children c = search needs
 
 all-have-children-requires : tie.Need-all-have-children-requires
-all-have-children-requires c κs = (gave (c .before) .few, c .before .before .before .before .before .before .before .nodes-from .kept .1 .1 .1 .1 .0)
+all-have-children-requires c κs = (gave (c .before) .few, c .before .before .before .before .before .before .before .nodes-from .kept .1 .1 .1 .1 .1 .0)
 
 same-length-2 : tie.Need-same-length-2
 same-length-2 c = search needs

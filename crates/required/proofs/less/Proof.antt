@@ -4,8 +4,6 @@ use mir.Facts.{toZ-pos, toZ-ofZ}
 use mir.Syntax.{w64}
 use Rattle.required.proofs.less.Statement.{statement}
 use Rattle.required.proofs.less.Tie as tie
-use Rattle.required.proofs.less.Reads as reads
-use Rattle.required.proofs.less.Lts as lts
 
 cast-result : tie.Need-cast-result
 cast-result c = search needs

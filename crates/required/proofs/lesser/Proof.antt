@@ -2,8 +2,6 @@
 use mir.Facts.{toZ-ofZ}
 use Rattle.required.proofs.lesser.Statement.{statement}
 use Rattle.required.proofs.lesser.Tie as tie
-use Rattle.required.proofs.lesser.Reads as reads
-use Rattle.required.proofs.lesser.Lts as lts
 
 returns : tie.Need-returns
 returns c = let e = rw (toZ-ofZ (c .before .fits .a), toZ-ofZ (c .before .fits .b)) at (c .if1 .taken) in rw (toZ-ofZ (c .before .fits .a)) (simp e)

@@ -7,9 +7,10 @@ use borrow.Author.Needs.{needs, sfits-of}
 use mir.Facts.{toZ-ofZ}
 use mir.Syntax.{w64}
 use mir.Val.{toZ}
+use Rattle.delays.specs.Tables.{place-in}
 use Rattle.readoff.specs.RowSets.{Setting, setting-start, setting-end}
 use Rattle.stage_numbers.specs.LimitRows.{lowered}
-use Rattle.stage_numbers.proofs.Times.{lowered-more}
+use Rattle.stage_numbers.proofs.Times.{start-small, lowered-more}
 use Rattle.stage_numbers.proofs.lower_limits.Statement.{statement}
 use Rattle.stage_numbers.proofs.lower_limits.Tie as tie
 use Rattle.stage_numbers.proofs.lower_limits.Reads as reads
@@ -17,7 +18,7 @@ use Rattle.stage_numbers.proofs.lower_limits.Lts as lts
 use Rattle.stage_numbers.proofs.lesser.Reads as lesser-reads
 
 abbrev Inv-loop : tie.InvT-loop
-Inv-loop layers delay j required t limit₀ l₀ limit l = Setting (pos 0) limit₀ limit t layers l (lowered limit₀ delay j (toZ w64 required) t)
+Inv-loop layers delay j required t limit₀ l₀ limit l = Setting (pos 0) limit₀ limit t layers l (lowered layers limit₀ delay j (toZ w64 required) t)
 
 abbrev μ-loop : tie.MeasureT-loop
 μ-loop layers delay j required t limit₀ l₀ limit l = layers - l
@@ -32,16 +33,16 @@ add-at : tie.Need-add-at Inv-loop μ-loop
 add-at c = search needs
 
 mul-d : tie.Need-mul-d Inv-loop μ-loop
-mul-d c = search needs
+mul-d c = let p = c .before .before .before .pre in omega (arith, start-small (p .0 .row) (p .1 .few))
 
 add-d : tie.Need-add-d Inv-loop μ-loop
-add-d c = search needs
+add-d c = let p = c .before .before .before .pre in omega (arith, start-small (p .0 .row) (p .1 .few))
 
 mul-d-2 : tie.Need-mul-d-2 Inv-loop μ-loop
-mul-d-2 c = search needs
+mul-d-2 c = let p = c .before .before .before .pre in omega (arith, start-small (p .0 .row) (p .1 .few))
 
 shared-slice-read-d : tie.Need-shared-slice-read-d Inv-loop μ-loop
-shared-slice-read-d c = search needs
+shared-slice-read-d c = omega (arith, place-in (c .before .before .before .before .pre .0 .row) (c .before .loop-test .taken))
 
 mul-old : tie.Need-mul-old Inv-loop μ-loop
 mul-old c = search needs
@@ -50,7 +51,9 @@ slice-copy-out-old : tie.Need-slice-copy-out-old Inv-loop μ-loop
 slice-copy-out-old c = omega (arith, c .before .before .loop .inv .so-far .long)
 
 lesser-requires : tie.Need-lesser-requires Inv-loop μ-loop
-lesser-requires c κs = (rw (toZ-ofZ (c .before .before .before .before .before .fits .required)) (c .before .before .before .before .before .pre .2), c .before .before .before .before .before .pre .0 .each _ (c .before .before .loop-test .taken))
+lesser-requires c κs =
+    let s = c .before .before .before .before .before in
+    (rw (toZ-ofZ (s .fits .required)) (s .pre .2), s .pre .0 .each _ (c .before .before .loop-test .taken))
 
 mul-new : tie.Need-mul-new Inv-loop μ-loop
 mul-new c = search needs
@@ -65,7 +68,10 @@ loop-less : tie.Need-loop-less Inv-loop μ-loop
 loop-less c = search needs
 
 loop-again : tie.Need-loop-again Inv-loop μ-loop
-loop-again c = lowered-more _ _ _ (c .before .before .before .before .before .before .pre .1) (c .before .before .before .before .loop .inv) (c .before .before .before .loop-test .taken) (toZ-ofZ (sfits-of (c .before .old .given))) (toZ-ofZ (sfits-of (c .lesser .ok)) ∙ c .lesser .ensures)
+loop-again c =
+    let t = c .before .before .before in
+    lowered-more _ _ _ (t .before .before .before .pre .1) (t .before .loop .inv) (t .loop-test .taken) (toZ-ofZ (sfits-of (c .before .old .given)))
+    (toZ-ofZ (sfits-of (c .lesser .ok)) ∙ c .lesser .ensures)
 
 same-length : tie.Need-same-length Inv-loop μ-loop
 same-length c = c .before .loop .inv .so-far .long

@@ -31,16 +31,18 @@ mul-driver : tie.Need-mul-driver
 mul-driver c = search needs
 
 slice-write-driver : tie.Need-slice-write-driver
-slice-write-driver c = omega (arith, c .before .before .before .before .before .pre .driver-long, c .before .before .before .before .before .pre .wire-row .stage-in)
+slice-write-driver c = let p = c .before .before .before .before .before .pre in omega (arith, p .driver-long, p .wire-row .stage-in)
 
 copy-row-requires : tie.Need-copy-row-requires
-copy-row-requires c κs = (c .before .before .before .before .before .before .pre .delays .row, c .before .before .before .before .before .before .pre .wire-row)
+copy-row-requires c κs = let p = c .before .before .before .before .before .before .pre in (p .delays .row, p .wire-row)
 
 enum-known-kind : tie.Need-enum-known-kind
 enum-known-kind c = search needs
 
 lower-limits-requires : tie.Need-lower-limits-requires
-lower-limits-requires c κs = (c .before .before .before .before .before .before .before .pre .delays, c .before .before .before .before .before .before .before .pre .limit-row, rw (required (c .before .before)) (in-range (c .before .before)))
+lower-limits-requires c κs =
+    let p = c .before .before .before .before .before .before .before .pre in
+    (p .delays, p .limit-row, rw (required (c .before .before)) (in-range (c .before .before)))
 
 returns : tie.Need-returns
 returns c = rw (c .enum-told .given .1) (refl, refl, refl)
@@ -58,7 +60,9 @@ same-length-3 : tie.Need-same-length-3
 same-length-3 c = search needs
 
 returns-3 : tie.Need-returns-3
-returns-3 c = rw (c .before .before .before .before .kind .given .1) (refl, refl, rw (required (c .before .before .before .before)) at (c .before .lower-limits .ensures))
+returns-3 c =
+    let k = c .before .before .before .before in
+    rw (k .kind .given .1) (refl, refl, rw (required k) at (c .before .lower-limits .ensures))
 
 pub note-node-spec : {M : Type 1} → statement M
 note-node-spec =

@@ -5,7 +5,7 @@ use mathlib.Core.Path.{_≡_, refl, sym, _∙_}
 use native.Mathlib.Omega.{arith}
 use lib.ListN.{length}
 use Rattle.laws.specs.Lists.{scan, scan-no, scan-more, scan-end}
-use Rattle.timing.specs.Tables.{layerTest, layers-scan, layer-in, layer-out}
+use Rattle.timing.specs.Slack.{layerTest, layers-scan, layer-in, layer-out}
 use Rattle.timing.proofs.are_layers.Statement.{statement}
 use Rattle.timing.proofs.are_layers.Tie as tie
 use Rattle.timing.proofs.are_layers.Reads as reads
@@ -30,7 +30,8 @@ wide-requires c κs = search needs
 returns : tie.Need-returns Inv-loop μ-loop
 returns c =
     λ n e.
-    sym (scan-no _ _ (c .before .before .before .loop-test .taken) (layer-out _ _ _ (c .before .wide .ensures) (c .if1 .taken))) ∙ (c .before .before .before .before .loop .inv .1 ∙ layers-scan n _ e)
+    sym (scan-no _ _ (c .before .before .before .loop-test .taken) (layer-out _ _ _ (c .before .wide .ensures) (c .if1 .taken))) ∙
+    (c .before .before .before .before .loop .inv .1 ∙ layers-scan n _ e)
 
 add-t : tie.Need-add-t Inv-loop μ-loop
 add-t c = search needs
@@ -39,8 +40,11 @@ loop-less : tie.Need-loop-less Inv-loop μ-loop
 loop-less c = search needs
 
 loop-again : tie.Need-loop-again Inv-loop μ-loop
-loop-again c =
-    (omega arith, sym (scan-more _ _ (c .before .before .before .loop-test .taken) (layer-in _ _ _ (c .before .wide .ensures) (c .if1 .left))) ∙ c .before .before .before .before .loop .inv .1)
+loop-again c = (
+  omega arith,
+  sym (scan-more _ _ (c .before .before .before .loop-test .taken) (layer-in _ _ _ (c .before .wide .ensures) (c .if1 .left))) ∙
+      c .before .before .before .before .loop .inv .1,
+)
 
 returns-2 : tie.Need-returns-2 Inv-loop μ-loop
 returns-2 c = λ n e. sym (scan-end _ _ _ (c .loop-test .left)) ∙ (c .before .loop .inv .1 ∙ layers-scan n _ e)

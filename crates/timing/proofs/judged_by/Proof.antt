@@ -1,30 +1,51 @@
--- `judged_by` is right: cost and slack are read off the net's tables.
+-- `judged_by` is right: cost is the sum over the edges on their layers, and slack follows from the delays under the plan.
 use borrow.Author.Needs.{needs, sfits-of}
 use mathlib.Core.Path.{refl, _∙_}
+use Prim.Native.Nat.{ℕ}
+use lib.ListN.{length-replicate}
 use mir.Syntax.{w64}
 use mir.Facts.{toZ-ofZ}
-use Rattle.tree.specs.Held.{held-accepted}
-use Rattle.timing.specs.Tables.{timed}
 use Rattle.timing.proofs.judged_by.Statement.{statement}
 use Rattle.timing.proofs.judged_by.Tie as tie
 use Rattle.timing.proofs.judged_by.Reads as reads
 use Rattle.timing.proofs.judged_by.Lts as lts
 use Rattle.costs.proofs.plan_cost.Reads as plan-cost-reads
-use Rattle.timing.proofs.slack_of.Reads as slack-of-reads
+use Rattle.delays.proofs.plan_delays.Reads as plan-delays-reads
+use Rattle.timing.proofs.slack_by.Reads as slack-by-reads
 
--- src/lib.rt:111:9
+slice-aggregate-plan-delays : tie.Need-slice-aggregate-plan-delays
+slice-aggregate-plan-delays c = search needs
+
+plan-delays-requires : tie.Need-plan-delays-requires
+plan-delays-requires c κs = let s = c .before .before .before .before .before .pre in (s .0, (_, s .1), s .2, length-replicate {A = ℕ} 256 0)
+
 plan-cost-requires : tie.Need-plan-cost-requires
-plan-cost-requires c κs = let P = c .before .before .before .before .before .before .before .pre in (_, held-accepted (P .0), P .1 .priced, P .2 .sized, P .2 .layered)
+plan-cost-requires c κs = let s = c .before .before .before .before .before .before .before .pre in (s .0, (_, s .1), s .2)
 
--- src/lib.rt:112:9
-slack-of-requires : tie.Need-slack-of-requires
-slack-of-requires c κs = let P = c .before .before .before .before .before .before .before .before .pre in timed (P .0) (P .1) (P .2)
+slice-aggregate-slack-by : tie.Need-slice-aggregate-slack-by
+slice-aggregate-slack-by c = search needs
 
--- src/lib.rt:92:1
+slack-by-requires : tie.Need-slack-by-requires
+slack-by-requires c κs =
+    let s = c .before .before .before .before .before .before .before .before .before .pre in
+    (s .0, s .1, (_, s .2, c .before .before .before .plan-delays .ensures))
+
 returns : tie.Need-returns
 returns c =
-    let P = c .before .before .before .before .before .before .before .before .before .pre in
-    rw (c .before .plan-cost .ensures _ (held-accepted (P .0)) (P .1 .priced) (P .2 .sized) (P .2 .layered), toZ-ofZ (sfits-of {w = w64} (c .slack-of .ok)) ∙ c .slack-of .ensures) refl
+    let s = c .before .before .before .before .before .before .before .before .before .before .pre in
+    rw (
+      c .before .before .plan-cost .ensures,
+      toZ-ofZ (sfits-of {w = w64} (c .slack-by .ok)) ∙ c .slack-by .ensures _ (s .2)
+          (c .before .before .before .before .plan-delays .ensures),
+    ) refl
 
 pub judged-by-spec : {M : Type 1} → statement M
-judged-by-spec = tie.close (tie.spec plan-cost-requires slack-of-requires returns)
+judged-by-spec =
+    tie.close
+    (tie.spec
+    slice-aggregate-plan-delays
+    plan-delays-requires
+    plan-cost-requires
+    slice-aggregate-slack-by
+    slack-by-requires
+    returns)

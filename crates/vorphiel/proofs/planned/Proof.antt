@@ -1,9 +1,8 @@
 -- `planned` is right: it meets the refusals in the definition's order, and what is left after them is planned.
 use borrow.Author.Needs.{needs}
-use mathlib.Core.Path.{_≡_, refl, ap, sym, _∙_}
-use native.Mathlib.Omega.{arith}
+use mathlib.Core.Path.{ap, sym, _∙_}
 use borrow.Author.Tests.{not-true, not-false}
-use Rattle.tree.specs.Held.{Kept, netOf, held-read}
+use Rattle.reader.specs.Kept.{Kept, held-read}
 use Rattle.planning.specs.Calls.{refusedWith}
 use Rattle.vorphiel.specs.Answers.{netRefusal}
 use Rattle.vorphiel.proofs.Planning.{plan-unread, plan-9, plan-10, admitted}
@@ -18,8 +17,10 @@ use Rattle.vorphiel.proofs.net_refusal.Reads as net-refusal-reads
 use Rattle.vorphiel.proofs.share_in_range.Reads as share-in-range-reads
 
 kept : (c : tie.After-known-told)
-    → Kept (c .before .before .before .before .before .before .before .before .args .net .now) (c .before .before .before .before .read .last .1 .0) (c .before .found .given .0 .0) (c .before .found .given .0 .1 .0) (c .before .found .given .0 .1 .1 .0)
-kept c = held-read (rw (c .before .found .given .1) at (c .before .before .before .before .read .ensures)) (c .before .before .before .before .read .kept .1 .0)
+    → Kept (c .before .before .before .before .before .before .before .before .args .net .now) (c .before .before .before .before .read .last .1 .1 .0)
+    (c .before .found .given .0 .0) (c .before .found .given .0 .1 .0) (c .before .found .given .0 .1 .1 .0)
+kept c =
+    held-read (rw (c .before .found .given .1) at (c .before .before .before .before .read .ensures)) (c .before .before .before .before .read .kept .1 .1 .0)
 
 slice-aggregate-read : tie.Need-slice-aggregate-read
 slice-aggregate-read c = search needs
@@ -52,7 +53,8 @@ refused-requires-2 c κs = search needs
 
 returns-2 : tie.Need-returns-2
 returns-2 c =
-    rw (c .refused2 .ensures) (plan-9 _ _ _ _ _ (kept (c .before .before .before)) (sym (c .before .before .share-in-range .ensures) ∙ not-true _ (c .before .if1 .taken)))
+    rw (c .refused2 .ensures) (plan-9 _ _ _ _ _ (kept (c .before .before .before)) (sym (c .before .before .share-in-range .ensures) ∙ not-true _
+    (c .before .if1 .taken)))
 
 refused-requires-3 : tie.Need-refused-requires-3
 refused-requires-3 c κs = search needs
@@ -60,13 +62,18 @@ refused-requires-3 c κs = search needs
 returns-3 : tie.Need-returns-3
 returns-3 c =
     rw (c .refused3 .ensures)
-    (plan-10 _ _ _ _ _ (kept (c .before .before .before .before)) (sym (c .before .before .before .share-in-range .ensures) ∙ not-false _ (c .before .before .if1 .left)) (c .before .if2 .taken))
+    (plan-10 _ _ _ _ _ (kept (c .before .before .before .before)) (sym (c .before .before .before .share-in-range .ensures) ∙ not-false _
+    (c .before .before .if1 .left)) (c .before .if2 .taken))
 
 slice-aggregate-plan-net : tie.Need-slice-aggregate-plan-net
 slice-aggregate-plan-net c = search needs
 
 plan-net-requires : tie.Need-plan-net-requires
-plan-net-requires c κs = admitted _ _ _ (c .before .before .before .before .before .before .before .before .before .before .before .before .before .before .args .table .now) (c .before .before .before .before .before .before .before .before .before .before .before .before .before .before .args .buffer .now) (kept (c .before .before .before .before .before .before)) (sym (c .before .before .before .before .before .share-in-range .ensures) ∙ not-false _ (c .before .before .before .before .if1 .left)) (c .before .before .before .if2 .left)
+plan-net-requires c κs =
+    admitted _ _ _ (c .before .before .before .before .before .before .before .before .before .before .before .before .before .before .args .table .now)
+    (c .before .before .before .before .before .before .before .before .before .before .before .before .before .before .args .buffer .now) (kept
+    (c .before .before .before .before .before .before)) (sym (c .before .before .before .before .before .share-in-range .ensures) ∙ not-false _
+    (c .before .before .before .before .if1 .left)) (c .before .before .before .if2 .left)
 
 same-length : tie.Need-same-length
 same-length c = search needs
@@ -75,7 +82,7 @@ same-length-2 : tie.Need-same-length-2
 same-length-2 c = search needs
 
 returns-4 : tie.Need-returns-4
-returns-4 c = search needs
+returns-4 c = c .before .before .before .plan-net .ensures _ (kept (c .before .before .before .before .before .before .before .before .before .before) .holds)
 
 pub planned-spec : {M : Type 1} → statement M
 planned-spec =

@@ -1,0 +1,52 @@
+//! The stack that a call takes: it is made on a thread whose stack is filled with a mark beforehand; from the first byte
+//! that is no longer the mark on, the stack was used.
+
+use crate::measure::{Job, LIBRARY};
+use std::ffi::{c_int, c_void};
+
+const BYTES: usize = 1 << 20;
+const MARK: u8 = 0xa5;
+
+/// Room for the C library's attributes of a thread.
+#[repr(C, align(16))]
+struct Attributes([u8; 128]);
+
+extern "C" {
+    fn pthread_attr_init(attributes: *mut Attributes) -> c_int;
+    fn pthread_attr_setstack(attributes: *mut Attributes, stack: *mut c_void, bytes: usize) -> c_int;
+    fn pthread_create(
+        thread: *mut usize,
+        attributes: *const Attributes,
+        run: extern "C" fn(*mut c_void) -> *mut c_void,
+        with: *mut c_void,
+    ) -> c_int;
+    fn pthread_join(thread: usize, result: *mut *mut c_void) -> c_int;
+}
+
+extern "C" fn run(job: *mut c_void) -> *mut c_void {
+    let job = unsafe { &mut *(job as *mut Option<&mut Job>) };
+    if let Some(job) = job {
+        std::hint::black_box(job.answer(&LIBRARY));
+    }
+    std::ptr::null_mut()
+}
+
+fn used(mut job: Option<&mut Job>) -> usize {
+    let mut memory = vec![MARK; BYTES + 4096];
+    let start = memory.as_mut_ptr().align_offset(4096);
+    let stack = &mut memory[start..start + BYTES];
+    unsafe {
+        let (mut attributes, mut thread) = (Attributes([0; 128]), 0);
+        let with = &mut job as *mut Option<&mut Job> as *mut c_void;
+        assert_eq!(pthread_attr_init(&mut attributes), 0);
+        assert_eq!(pthread_attr_setstack(&mut attributes, stack.as_mut_ptr() as *mut c_void, BYTES), 0);
+        assert_eq!(pthread_create(&mut thread, &attributes, run, with), 0);
+        assert_eq!(pthread_join(thread, std::ptr::null_mut()), 0);
+    }
+    BYTES - stack.iter().take_while(|&&byte| byte == MARK).count()
+}
+
+/// The bytes of stack that the library takes for a job, above what a thread takes that does nothing.
+pub fn bytes(job: &mut Job) -> usize {
+    used(Some(job)) - used(None)
+}

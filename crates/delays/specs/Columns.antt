@@ -1,0 +1,34 @@
+-- Which layers the columns of the tables stand for. Each stage has w columns, for the layers from `first` of the stage on: judging has one column, the layer
+-- that the plan gives the stage, and planning has them all, from layer 0 on. So one version of loads and delays serves both.
+use mathlib.Core.Path.{_≡_}
+use mathlib.Core.List.{List}
+use Prim.Native.Nat.{ℕ, _+_, _≤_, _<_}
+use native.Mathlib.Omega.{arith}
+use native.Mathlib.Decide.{decLt}
+use lib.ListN.{length, getD, replicate, length-replicate, getD-replicate, List·getD-eq-default}
+use Rattle.rules.specs.Tree.{Net, stages, layerCount, on}
+use Rattle.facts.specs.Accepted.{Accepted}
+use Rattle.tree.specs.Plans.{Fitting}
+
+pub record Columns (n : Net) (first : List ℕ) (w : ℕ) : Type 0 where
+  pub inside : (t : ℕ) → t < stages n → on first t + w ≤ layerCount n
+  pub long : stages n ≤ length first
+
+-- A plan gives each stage its one column.
+pub plan-columns : {n : Net} {plan : List ℕ} → Fitting n plan → Columns n plan 1
+plan-columns F = record { inside = λ t h. omega (arith, F .layered t h); long = omega (arith, F .sized) }
+
+-- In an array of zeros every entry is 0, also one that there is not.
+pub zeros : (m k : ℕ) → getD (replicate {A = ℕ} m 0) k 0 ≡ 0
+zeros m k = go (decLt k m)
+  where
+    go : Dec (k < m) → _≡_ {A = ℕ} (getD (replicate {A = ℕ} m 0) k 0) 0
+    go (yes h) = getD-replicate m k 0 0 h
+    go (no h) = List·getD-eq-default (replicate {A = ℕ} m 0) 0 (omega (arith, length-replicate {A = ℕ} m 0))
+
+-- Zeros give each stage all layers.
+pub layer-columns : {n : Net} → Accepted n → {w : ℕ} → w ≡ layerCount n → Columns n (replicate {A = ℕ} 64 0) w
+layer-columns A e = record {
+  inside = λ t h. omega (arith, zeros 64 t);
+  long = omega (arith, A .few-stages, length-replicate {A = ℕ} 64 0);
+}

@@ -1,0 +1,103 @@
+-- The array while a net is read: that its rows are the nodes read so far, and that at the end it is the net.
+use mathlib.Core.Path.{_≡_, refl, ap, _∙_}
+use mathlib.Core.Bool.{Bool, true, false}
+use mathlib.Core.List.{List, [], _∷_, _++_, map, map-append}
+use Prim.Native.Nat.{ℕ, _+_, _<_, _≤_}
+use native.Mathlib.Numerals.{add-one}
+use native.Mathlib.Omega.{arith}
+use lib.ListN.{length, getD, set}
+use lib.Seq.{getD-set-same, getD-set-other}
+use Rattle.laws.specs.Basic.{from}
+use Rattle.laws.specs.Lists.{from-more, length-more}
+use Rattle.rules.specs.Tree as tree
+use Rattle.rules.specs.Bytes.{Field, maxLayers, maxNodes, bufferTag, costsAt, nodeAt, driverAt}
+use Rattle.words.specs.declared.Node.{Node}
+use Rattle.words.specs.Words.{rowAt, countAt, rowFor, Rows, cell, recordIn, nodeIn, nodesIn, driverIn, layersIn, netIn}
+use Rattle.words.specs.Puts.{recordAt, NodePut, DriverPut}
+use Rattle.words.proofs.Cells.{nodes-same}
+use Rattle.words.proofs.Layers.{layers-same}
+use Rattle.reader.specs.Nodes.{Put, Stored}
+
+-- the row of a node is not the driver's, and it is in the array
+pub row-first : (keep : Bool) (count : ℕ) → 1 ≤ rowFor keep count
+row-first true count = omega arith
+row-first false count = omega arith
+
+pub row-fits : (keep : Bool) {w : List ℕ} {count row : ℕ} → Rows keep w → count < maxNodes → row ≡ rowFor keep count → rowAt (row + 1) ≤ length w
+row-fits true R h e = omega (arith, R .all refl)
+row-fits false R h e = omega (arith, R .some)
+
+pub rows-kept : {keep : Bool} {w v : List ℕ} → Rows keep w → length v ≡ length w → Rows keep v
+rows-kept R e = record { some = omega (arith, R .some); all = λ k. e ∙ R .all k }
+
+-- the node of a field in its row
+pub put-node : {bs : List ℕ} {L : ℕ} {f : Field} {old new : List ℕ} {j : ℕ} → NodePut bs L (f .tag) (f .start) old new j true → Put bs L f old new j
+unfolding nodeIn nodeAt recordIn recordAt
+put-node {bs} {L} {f} N = record {
+  is =
+      rw (N .costs-are refl)
+      (ap (λ (n : Node). record { parent = n .parent; len = n .len; costs = costsAt bs L (f .start + 4); kind = n .kind }) (N .is));
+  lower = N .lower;
+}
+
+-- no node yet, and one node more
+pub stored-none : (L : ℕ) (keep : Bool) (old : List ℕ) → Stored L [] keep old old
+unfolding nodesIn
+stored-none L keep old = record { lower = λ k h. refl; are = λ e. refl }
+
+pub stored-more : {bs : List ℕ} {L : ℕ} {f : Field} {ns : List tree.Node} {keep : Bool} {old words new : List ℕ} → L ≤ maxLayers → Stored L ns keep old words
+    → Put bs L f words new (rowFor keep (length ns)) → Stored L (ns ++ (nodeAt bs L f ∷ [])) keep old new
+unfolding nodesIn
+stored-more {bs} {L} {f} {ns} {keep} {old} {words} {new} thin S P = record {
+  lower = λ k h. P .lower k (omega (arith, row-first keep (length ns))) ∙ S .lower k h;
+  are = λ e. more (rw e at P) (S .are e);
+}
+  where
+    more : Put bs L f words new (length ns + 1) → nodesIn words L (length ns) ≡ ns
+        → nodesIn new L (length (ns ++ (nodeAt bs L f ∷ []))) ≡ ns ++ (nodeAt bs L f ∷ [])
+    more P e =
+        ap (λ (k : ℕ). map (nodeIn new L) (from 1 k)) (length-more ns (nodeAt bs L f) ∙ add-one (length ns)) ∙
+        ap (map (nodeIn new L)) (from-more 1 (length ns)) ∙
+        map-append (nodeIn new L) (from 1 (length ns)) ((1 + length ns) ∷ []) ∙
+        ap (λ (m : List tree.Node). m ++ (nodeIn new L (1 + length ns) ∷ [])) (nodes-same words new L (length ns) thin (λ k a b. P .lower k b) ∙ e) ∙
+        ap (λ (x : tree.Node). ns ++ (x ∷ [])) (ap (nodeIn new L) (omega arith) ∙ P .is)
+
+-- the whole net: the driver, the nodes, and their count last
+module _ {bs : List ℕ} {L i : ℕ} {ns : List tree.Node} {keep r : Bool} {old mid words : List ℕ} (count : ℕ) (D : DriverPut bs L i old mid r)
+    (S : Stored L ns keep mid words) where
+  others : (k : ℕ) → (k ≡ countAt → ⊥) → getD (set words countAt count) k 0 ≡ getD words k 0
+  others k h = getD-set-other words countAt k count 0 h
+
+  head : (k : ℕ) → k < rowAt 1 → (k ≡ countAt → ⊥) → getD (set words countAt count) k 0 ≡ getD mid k 0
+  head k a b = others k b ∙ S .lower k a
+
+  pub tag-put : cell (set words countAt count) 0 0 ≡ bufferTag
+  tag-put = head 32 (omega arith) (λ e. omega arith) ∙ D .tagged
+
+  driver-is : driverIn (set words countAt count) ≡ driverAt bs i
+  unfolding driverIn
+  driver-is =
+      rw (
+        head 36 (omega arith) (λ e. omega arith),
+        head 37 (omega arith) (λ e. omega arith),
+        head 38 (omega arith) (λ e. omega arith),
+        head 39 (omega arith) (λ e. omega arith),
+      )
+      (D .is)
+
+  pub net-put : L ≤ maxLayers → rowAt 1 ≤ length words → count ≡ length ns → keep ≡ true
+      → netIn (set words countAt count) ≡ record { layers = layersIn old L; driver = driverAt bs i; nodes = ns }
+  unfolding netIn
+  net-put thin long size k = rw (counted, layered, driver-is, layers-are, nodes-are)
+    where
+      counted : cell (set words countAt count) 0 1 ≡ count
+      counted = getD-set-same words countAt count 0 (omega arith)
+
+      layered : cell (set words countAt count) 0 2 ≡ L
+      layered = head 34 (omega arith) (λ e. omega arith) ∙ D .layered
+
+      layers-are : layersIn (set words countAt count) L ≡ layersIn old L
+      layers-are = layers-same old (set words countAt count) L thin (λ m h. head m (omega arith) (λ e. omega arith) ∙ D .lower m h)
+
+      nodes-are : nodesIn (set words countAt count) L count ≡ ns
+      nodes-are = nodes-same words (set words countAt count) L count thin (λ m a b. others m (λ e. omega arith)) ∙ ap (nodesIn words L) size ∙ S .are k
