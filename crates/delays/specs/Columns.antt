@@ -1,13 +1,15 @@
 -- Which layers the columns of the tables stand for. Each stage has w columns, for the layers from `first` of the stage on: judging has one column, the layer
 -- that the plan gives the stage, and planning has them all, from layer 0 on. So one version of loads and delays serves both.
-use mathlib.Core.Path.{_≡_}
+use mathlib.Core.Path.{_≡_, refl, ap, sym, _∙_}
 use mathlib.Core.List.{List}
 use Prim.Native.Nat.{ℕ, _+_, _≤_, _<_}
 use native.Mathlib.Omega.{arith}
 use native.Mathlib.Decide.{decLt}
 use lib.ListN.{length, getD, replicate, length-replicate, getD-replicate, List·getD-eq-default}
-use Rattle.rules.specs.Tree.{Net, stages, layerCount, on}
+use Rattle.rules.specs.declared.Kind.the-variants.{Steiner}
+use Rattle.rules.specs.Tree.{Net, at, stageOf, stages, layerCount, on}
 use Rattle.facts.specs.Accepted.{Accepted}
+use Rattle.tree.specs.Staged.{stageBelow, stage-is-below, below-is}
 use Rattle.tree.specs.Plans.{Fitting}
 
 pub record Columns (n : Net) (first : List ℕ) (w : ℕ) : Type 0 where
@@ -32,3 +34,12 @@ layer-columns A e = record {
   inside = λ t h. omega (arith, zeros 64 t);
   long = omega (arith, A .few-stages, length-replicate {A = ℕ} 64 0);
 }
+
+-- The wire below the upper end of an edge, and below its lower end if that is a Steiner point, is of the edge's stage, so the columns stand for the same
+-- layers (01, The tree). l is the first layer of that stage.
+module _ {n : Net} (A : Accepted n) (first : List ℕ) {j l : ℕ} (h : 1 ≤ j) (e : l ≡ on first (stageOf n j)) where
+  pub layer-above : on first (stageBelow n (at n j .parent)) ≡ l
+  layer-above = sym (e ∙ ap (on first) (stage-is-below A j h))
+
+  pub layer-below : at n j .kind ≡ Steiner → on first (stageBelow n j) ≡ l
+  layer-below s = ap (on first) (below-is A j h ∙ rw s refl) ∙ sym e

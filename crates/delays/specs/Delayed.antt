@@ -22,8 +22,8 @@ use Rattle.facts.specs.Fits.{halfRange, delay-fits}
 use Rattle.tree.specs.declared.Gate.{Gate}
 use Rattle.tree.specs.declared.Gate.the-variants.{Root, Wire}
 use Rattle.tree.specs.Gates.{gateOf, root-gate, no-gate}
-use Rattle.tree.specs.Staged.{stageBelow, stage-is-below, below-is}
 use Rattle.delays.specs.Tables.{entry, Row, RowIn, Filled, row-kept}
+use Rattle.delays.specs.Columns.{layer-above, layer-below}
 use Rattle.delays.specs.Edges.{edgeOn, EdgeIn, LoadAt, edge-is, edge-in}
 use Rattle.delays.specs.Loaded.{Loaded}
 
@@ -139,16 +139,12 @@ module _ {n : Net} (A : Accepted n) {first : List ℕ} {w : ℕ} {table delay : 
 
   below : LoadAt n w table l j
   below = record {
-    is = λ s c b.
-        let q : on first (stageBelow n j) ≡ l = ap (on first) (below-is A j (D .some) ∙ rw s refl) ∙ sym e in
-        rw (← q) (T .each j c h b);
+    is = λ s c b. rw (← layer-below A first (D .some) e s) (T .each j c h b);
   }
 
   -- The load at the parent and the delay to it, on the layers of the edge's stage.
   load-is : (c : ℕ) → c < w → entry w table p c ≡ load n (l + c) p
-  load-is c b =
-      let q : on first (stageBelow n p) ≡ l = sym (e ∙ ap (on first) (stage-is-below A j (D .some))) in
-      rw q at (T .each p c (omega (arith, lower)) b)
+  load-is c b = rw (layer-above A first (D .some) e) at (T .each p c (omega (arith, lower)) b)
 
   wire-is : isRoot n p ≡ false → (c : ℕ) → c < w → entry w delay p c ≡ delayTo n (l + c) p
   wire-is r c b =

@@ -1,6 +1,6 @@
 -- The loads, from the last node to the first: before node j is taken, each entry is what the children after j add to it, so the load at j is whole, and j
 -- adds its wire and the load at its lower end to the load at its parent (01, Timing rule; source 001, section 2: all wire of the stage counts).
-use mathlib.Core.Path.{_≡_, refl, ap, sym, _∙_}
+use mathlib.Core.Path.{_≡_, refl, sym, _∙_}
 use mathlib.Core.Logic.{_⊎_, inl, inr}
 use mathlib.Core.List.{List}
 use Prim.Native.Nat.{ℕ, zero, suc, _+_, _*_, _-_, _≤_, _<_}
@@ -16,8 +16,8 @@ use Rattle.rules.specs.Timing.{load}
 use Rattle.facts.specs.Accepted.{Accepted}
 use Rattle.facts.specs.Loads.{maxLoad, addedLoad, childLoad, load-children, load-after, load-in}
 use Rattle.delays.specs.Tables.{entry, Row, RowIn, Filled, row-kept}
-use Rattle.tree.specs.Staged.{stageBelow, stage-is-below, below-is}
-use Rattle.delays.specs.Columns.{zeros}
+use Rattle.tree.specs.Staged.{stageBelow}
+use Rattle.delays.specs.Columns.{zeros, layer-above, layer-below}
 use Rattle.delays.specs.Edges.{addedOn, EdgeIn, LoadAt, added-is, edge-in}
 
 -- Entry i * w + c is the load at node i, on the layer that column c of the stage below i stands for.
@@ -101,16 +101,14 @@ module _ {n : Net} (A : Accepted n) where
 
       -- The wire below the parent is on the layers of the edge's stage.
       on-is : on first (stageBelow n p) ≡ l
-      on-is = sym (e ∙ ap (on first) (stage-is-below A j h))
+      on-is = layer-above A first h e
 
       row : (i : ℕ) → i < 256 → Row w table i
       row i b = record { node-in = b; long = G .long }
 
       whole : LoadAt n w table l j
       whole = record {
-        is = λ s c b.
-            let q : on first (stageBelow n j) ≡ l = ap (on first) (below-is A j h ∙ rw s refl) ∙ sym e in
-            rw (← q) (G .each j c (G .inside) b ∙ sym (load-after A (on first (stageBelow n j) + c) j (G .inside)));
+        is = λ s c b. rw (← layer-below A first h e s) (G .each j c (G .inside) b ∙ sym (load-after A (on first (stageBelow n j) + c) j (G .inside)));
       }
 
       held : (c : ℕ) → c < w → entry w table p c ≡ childLoad n (l + c) p (suc j) (length (n .nodes) - j)

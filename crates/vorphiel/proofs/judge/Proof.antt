@@ -1,4 +1,4 @@
--- `judge` is right: it meets the refusals in the definition's order, and what is left after them is a plan of the net, whose cost and slack the tables give.
+-- `judge` is right: it meets the refusals in the definition's order, and what is left after them is a plan of the net, which is judged as every plan is.
 use borrow.Author.Needs.{needs}
 use mathlib.Core.Path.{ap, sym, _∙_}
 use borrow.Author.Tests.{not-true, not-false, eqb-true, eqb-false}
