@@ -5,16 +5,14 @@
 //!     vorphiel-bench --once   each measured call once, for callgrind
 
 mod families;
-#[allow(dead_code)]
-#[path = "../../hosts/plan_file.rs"]
-mod host;
+#[path = "../../hosts/vorphiel.rs"]
+mod library;
 mod measure;
 mod peer;
 mod report;
 mod stack;
 
 use families::{Case, Shape, Size, Times, LIMITS};
-use host::vorphiel as library;
 use measure::{Call, Job};
 
 /// The shares of the table.

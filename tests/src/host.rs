@@ -4,61 +4,22 @@
 //! Every lent buffer is a copy with a margin of known values on both sides, and every result begins as rubbish. A
 //! write outside a buffer, or into one that is only to be read, is reported by `complaint`.
 
+use crate::c_calls::{Check, Judge, Plan, TableEntries};
 use crate::plain::{Checked, Judged, Planned};
 
-/// The types of the calls; the names of their parameters stand at the linked library's below.
-pub type Check = unsafe extern "C" fn(*const u8, usize, *mut u64, *mut u64, *mut u64) -> u8;
-pub type Judge = unsafe extern "C" fn(*const u8, usize, *const u8, usize, *mut u64, *mut i64) -> u8;
-#[rustfmt::skip]
-pub type Plan = unsafe extern "C" fn(
-    *const u8, usize, u64, u64, *mut i64, usize, *mut u8, usize, *mut u64, *mut i64, *mut u64, *mut u64,
-) -> u8;
-pub type TableEntries = unsafe extern "C" fn(u64, u64) -> u64;
-
-/// The calls of an implementation.
+/// The calls of an implementation, each a function of the C function's parameters.
 #[derive(Clone, Copy)]
 pub struct Interface {
-    pub check: Check,
-    pub judge: Judge,
-    pub plan: Plan,
-    pub table_entries: TableEntries,
+    pub check: unsafe fn(Check) -> u8,
+    pub judge: unsafe fn(Judge) -> u8,
+    pub plan: unsafe fn(Plan) -> u8,
+    pub table_entries: unsafe fn(TableEntries) -> u64,
 }
 
 /// The linked library's.
 #[cfg(feature = "library")]
 pub fn linked() -> Option<Interface> {
-    extern "C" {
-        fn vorphiel_check(net: *const u8, length: usize, nodes: *mut u64, stages: *mut u64, layers: *mut u64) -> u8;
-        fn vorphiel_judge(
-            net: *const u8,
-            net_len: usize,
-            plan: *const u8,
-            plan_len: usize,
-            cost: *mut u64,
-            slack: *mut i64,
-        ) -> u8;
-        fn vorphiel_plan(
-            net: *const u8,
-            net_len: usize,
-            p: u64,
-            q: u64,
-            table: *mut i64,
-            table_len: usize,
-            plan: *mut u8,
-            plan_len: usize,
-            cost: *mut u64,
-            slack: *mut i64,
-            k: *mut u64,
-            floor: *mut u64,
-        ) -> u8;
-        fn vorphiel_table_entries(s: u64, q: u64) -> u64;
-    }
-    Some(Interface {
-        check: vorphiel_check,
-        judge: vorphiel_judge,
-        plan: vorphiel_plan,
-        table_entries: vorphiel_table_entries,
-    })
+    Some(Interface { check: Check::make, judge: Judge::make, plan: Plan::make, table_entries: TableEntries::make })
 }
 
 /// This build has none.
@@ -139,9 +100,15 @@ impl Host {
     pub fn check(&mut self, net: &[u8]) -> Checked {
         let mut lent = Lent::new("net", net, NET_EDGE);
         let (mut nodes, mut stages, mut layers) = (result("nodes"), result("stages"), result("layers"));
+        let call = Check {
+            net: lent.start(),
+            net_len: net.len(),
+            nodes: nodes.start(),
+            stages: stages.start(),
+            layers: layers.start(),
+        };
         // Safe: the pointers are to memory of the stated lengths that lives through the call.
-        let refusal =
-            unsafe { (self.interface.check)(lent.start(), net.len(), nodes.start(), stages.start(), layers.start()) };
+        let refusal = unsafe { (self.interface.check)(call) };
         self.complaint = lent.written(net);
         let [nodes, stages, layers] = self.results([&nodes, &stages, &layers]);
         Checked { refusal, nodes, stages, layers }
@@ -151,17 +118,16 @@ impl Host {
         let mut lent = Lent::new("net", net, NET_EDGE);
         let mut lent_plan = Lent::new("plan", plan, PLAN_EDGE);
         let (mut cost, mut slack) = (result("cost"), result("slack"));
-        // Safe: as above.
-        let refusal = unsafe {
-            (self.interface.judge)(
-                lent.start(),
-                net.len(),
-                lent_plan.start(),
-                plan.len(),
-                cost.start(),
-                slack.start().cast(),
-            )
+        let call = Judge {
+            net: lent.start(),
+            net_len: net.len(),
+            plan: lent_plan.start(),
+            plan_len: plan.len(),
+            cost: cost.start(),
+            slack: slack.start().cast(),
         };
+        // Safe: as above.
+        let refusal = unsafe { (self.interface.judge)(call) };
         self.complaint = lent.written(net).or_else(|| lent_plan.written(plan));
         let [cost, slack] = self.results([&cost, &slack]);
         Judged { refusal, cost, slack: slack as i64 }
@@ -172,23 +138,22 @@ impl Host {
         let mut lent_table = Lent::new("table", table, TABLE_EDGE);
         let mut lent_plan = Lent::new("plan buffer", plan, PLAN_EDGE);
         let (mut cost, mut slack, mut k, mut floor) = (result("cost"), result("slack"), result("k"), result("floor"));
-        // Safe: as above, and no two of the buffers overlap.
-        let refusal = unsafe {
-            (self.interface.plan)(
-                lent.start(),
-                net.len(),
-                p,
-                q,
-                lent_table.start(),
-                table.len(),
-                lent_plan.start(),
-                plan.len(),
-                cost.start(),
-                slack.start().cast(),
-                k.start(),
-                floor.start(),
-            )
+        let call = Plan {
+            net: lent.start(),
+            net_len: net.len(),
+            p,
+            q,
+            table: lent_table.start(),
+            table_len: table.len(),
+            plan: lent_plan.start(),
+            plan_len: plan.len(),
+            cost: cost.start(),
+            slack: slack.start().cast(),
+            k: k.start(),
+            floor: floor.start(),
         };
+        // Safe: as above, and no two of the buffers overlap.
+        let refusal = unsafe { (self.interface.plan)(call) };
         self.complaint = lent.written(net).or_else(|| lent_table.beside()).or_else(|| lent_plan.beside());
         table.copy_from_slice(lent_table.content());
         plan.copy_from_slice(lent_plan.content());
@@ -199,7 +164,7 @@ impl Host {
     /// Nothing is lent here, so there is nothing to complain of.
     pub fn table_entries(&mut self, s: u64, q: u64) -> u64 {
         // Safe: numbers only.
-        unsafe { (self.interface.table_entries)(s, q) }
+        unsafe { (self.interface.table_entries)(TableEntries { s, q }) }
     }
 
     /// The results of a call.

@@ -18,9 +18,9 @@ use mir.Val.{SFits, toZ, ofZ}
 use Rattle.laws.specs.Basic.{minZ}
 use Rattle.laws.specs.Extremes.{maxZ}
 use Rattle.laws.specs.Integers.{up, down, true-le}
-use Rattle.oracle.specs.Table.{pointers, merge}
-use Rattle.oracle.specs.Band.{MergedBand, fromColumn, pointerA, pointerB, band-entries, band-limit, band-merge, band-front, band-end, end-inner, FirstIn}
-use Rattle.bands.specs.Entries.{rowAt, overDelay, Kept, maxEntry, maxDelay, mergedLow, never, never-range, InRange, range-fits, range-before, range-minus, range-more, range-min, range-max}
+use Rattle.oracle.specs.Band.{pointers, merge, MergedBand, fromColumn, pointerA, pointerB, band-entries, band-limit, band-merge, band-front, band-end, end-inner, FirstIn}
+use Rattle.slices.specs.Laid.{maxDelay, maxEntry}
+use Rattle.bands.specs.Entries.{rowAt, overDelay, KeptOutside, mergedLow, never, never-range, InRange, range-fits, range-before, range-minus, range-more, range-min, range-max}
 use Rattle.bands.specs.Contracts.{Filled, BranchIn, Branched, MergeIn, Merged, mergedStart, SpendIn, Spent, RaiseIn, RaisedRow, Widened, Cut}
 use Rattle.bands.proofs.Writing.{Written, written-start, written-more, written-same, written-other}
 
@@ -266,7 +266,7 @@ module _ {before table : List ℤ} {a sa ea da b sb eb db out width i j w : ℕ}
 -- spend: from the last column down to c + i the entries are the later of two, the others stay.
 pub record Spending (before : List ℤ) (from out start end c d : ℕ) (table : List ℤ) (i : ℕ) : Type 0 where
   pub most : i ≤ end
-  pub kept : Kept before table out (c + end)
+  pub kept : KeptOutside before table out (c + end)
   pub done : (v : ℕ) → c + start ≤ v → c + i ≤ v → v < c + end → rowAt table out v ≡ maxZ (rowAt before out v) (overDelay before from d (v - c))
   pub rest : (v : ℕ) → (v < c + start) ⊎ (v < c + i) → rowAt table out v ≡ rowAt before out v
 

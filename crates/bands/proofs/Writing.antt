@@ -8,11 +8,11 @@ use lib.ListN.{length, set, length-set}
 use lib.Seq.{getD-set-same, getD-set-other}
 use lib.IntN.{ℤ, pos}
 use Rattle.laws.specs.Booleans.{same-or}
-use Rattle.bands.specs.Entries.{rowAt, Apart, Kept}
+use Rattle.bands.specs.Entries.{rowAt, Apart, KeptOutside}
 
 -- P says what the entry of a column is to be.
 pub record Written (P : ℕ → ℤ → Type 0) (before : List ℤ) (off width : ℕ) (table : List ℤ) (n : ℕ) : Type 0 where
-  pub kept : Kept before table off width
+  pub kept : KeptOutside before table off width
   pub done : (v : ℕ) → v < n → v < width → P v (rowAt table off v)
   pub rest : (v : ℕ) → n ≤ v → rowAt table off v ≡ rowAt before off v
 

@@ -10,11 +10,12 @@ use lib.IntN.{ℤ}
 use lib.Signed.{leZ}
 use Rattle.laws.specs.Extremes.{maxZ}
 use Rattle.oracle.specs.Band.{Band, LimitOn, Raised}
-use Rattle.bands.specs.Entries.{rowAt, overDelay, Apart, Kept, maxEntry, maxDelay, mergedLow, never, InRange, BandIn}
+use Rattle.slices.specs.Laid.{maxDelay, maxEntry}
+use Rattle.bands.specs.Entries.{rowAt, overDelay, Apart, KeptOutside, mergedLow, never, InRange, BandIn}
 
 -- fill: the columns from `start` to before `end` become the value.
 pub record Filled (before after : List ℤ) (row start end : ℕ) (value : ℤ) : Type 0 where
-  pub kept : Kept before after row end
+  pub kept : KeptOutside before after row end
   pub early : (w : ℕ) → w < start → rowAt after row w ≡ rowAt before row w
   pub entries : (w : ℕ) → start ≤ w → w < end → rowAt after row w ≡ value
 
@@ -28,7 +29,7 @@ pub record BranchIn (table : List ℤ) (from out start end d : ℕ) (limit : ℤ
   pub limit-range : InRange maxEntry limit
 
 pub record Branched (before after : List ℤ) (from out start end d : ℕ) (limit : ℤ) : Type 0 where
-  pub kept : Kept before after out end
+  pub kept : KeptOutside before after out end
   pub range : BandIn mergedLow after out start end
   pub band : (asked : ℤ → Bool) (hi : ℕ) (f g : ℤ → ℕ) → Band asked hi (overDelay before from d) start end f → LimitOn asked hi limit g
       → Band asked hi (rowAt after out) start end (λ t. g t + f t)
@@ -57,7 +58,7 @@ mergedStart sa sb width = min (sa + sb) width
 pub record Merged (before after : List ℤ) (a sa ea da b sb eb db out width r : ℕ) : Type 0 where
   pub order : mergedStart sa sb width ≤ r
   pub most : r ≤ width
-  pub kept : Kept before after out width
+  pub kept : KeptOutside before after out width
   pub range : BandIn mergedLow after out (mergedStart sa sb width) r
   pub band : (asked : ℤ → Bool) (f g : ℤ → ℕ) → Band asked (width - 1) (overDelay before a da) sa ea f → Band asked (width - 1) (overDelay before b db) sb eb g
       → Band asked (width - 1) (rowAt after out) (mergedStart sa sb width) r (λ t. f t + g t)
@@ -72,7 +73,7 @@ pub record SpendIn (table : List ℤ) (from out start end c d : ℕ) : Type 0 wh
   pub range-out : BandIn maxEntry table out (c + start) (c + end)
 
 pub record Spent (before after : List ℤ) (from out start end c d : ℕ) : Type 0 where
-  pub kept : Kept before after out (c + end)
+  pub kept : KeptOutside before after out (c + end)
   pub range : BandIn maxEntry after out (c + start) (c + end)
   pub better : (w : ℕ) → c + start ≤ w → w < c + end → rowAt after out w ≡ maxZ (rowAt before out w) (overDelay before from d (w - c))
   pub others : (w : ℕ) → (w < c + start) ⊎ (c + end ≤ w) → rowAt after out w ≡ rowAt before out w
@@ -83,7 +84,7 @@ pub record RaiseIn (table : List ℤ) (row top : ℕ) : Type 0 where
   pub range : BandIn maxEntry table row 0 top
 
 pub record RaisedRow (before after : List ℤ) (row top : ℕ) : Type 0 where
-  pub kept : Kept before after row top
+  pub kept : KeptOutside before after row top
   pub range : BandIn maxEntry after row 0 top
   pub raised : Raised (rowAt before row) (rowAt after row) 0 top
 
@@ -92,7 +93,7 @@ pub record Widened (before after : List ℤ) (row top to r : ℕ) : Type 0 where
   pub top-in : top ≤ r
   pub to-in : to ≤ r
   pub most : (m : ℕ) → top ≤ m → to ≤ m → r ≤ m
-  pub kept : Kept before after row r
+  pub kept : KeptOutside before after row r
   pub same : (w : ℕ) → w < top → rowAt after row w ≡ rowAt before row w
   pub new : (w : ℕ) → top ≤ w → w < r → rowAt after row w ≡ never
 

@@ -2,7 +2,7 @@
 use mathlib.Core.Path.{_≡_, refl, sym}
 use mathlib.Core.Bool.{Bool, true, false, cond}
 use mathlib.Core.List.{List}
-use Prim.Native.Nat.{ℕ, _+_, _-_, _*_, _^_, _≤_, _<_}
+use Prim.Native.Nat.{ℕ, _+_, _-_, _*_, _≤_, _<_}
 use native.Mathlib.Omega.{arith}
 use native.Mathlib.Nat.{mul-le-mul-right}
 use lib.ListN.{length, getD}
@@ -12,6 +12,7 @@ use mir.Syntax.{w64}
 use mir.Val.{SFits}
 use Rattle.laws.specs.Basic.{minZ}
 use Rattle.laws.specs.Extremes.{maxZ}
+use Rattle.slices.specs.Laid.{maxEntry, maxDelay}
 use Rattle.laws.specs.Integers.{up, down, pos-view, minus-up, minus-down, minus-view, same-view, fits-parts, le-true, thin}
 
 -- Entry w of the row that starts at `off`.
@@ -34,29 +35,19 @@ pub apart-sym : (p q width : ℕ) → Apart p q width → Apart q p width
 apart-sym p q width a w h v k e = a v k w h (sym e)
 
 -- What a write to the `size` entries from `off` on leaves: the length, and every other entry.
-pub record Kept (before after : List ℤ) (off size : ℕ) : Type 0 where
+pub record KeptOutside (before after : List ℤ) (off size : ℕ) : Type 0 where
   pub long : length after ≡ length before
   pub others : (m : ℕ) → Outside m off size → getD after m (pos 0) ≡ getD before m (pos 0)
 
--- 2^62: times of finished rows and limits lie as far from 0 as this at most. It also is the limit of a stage with no sink of its own; its negative is no
--- time at all.
-abbrev pub maxEntry : ℕ
-maxEntry = 2 ^ 62
-
-abbrev pub noLimit : ℤ
-noLimit = pos maxEntry
-
+-- No time at all: it is before every time at which a stage is reached.
 abbrev pub never : ℤ
 never = negsuc (maxEntry - 1)
 
--- Delays are below 2^61, so that what is merged, which can be earlier by one delay, and its differences fit signed 64 bits.
-abbrev pub maxDelay : ℕ
-maxDelay = 2 ^ 61
-
+-- What is merged can be earlier than a time of a finished row by one delay; it and its differences fit signed 64 bits.
 abbrev pub mergedLow : ℕ
 mergedLow = maxEntry + maxDelay
 
--- z lies from -low to 2^62.
+-- z lies from -low to maxEntry.
 pub record InRange (low : ℕ) (z : ℤ) : Type 0 where
   pub above : up z ≤ maxEntry
   pub below : down z ≤ low

@@ -44,23 +44,25 @@ pub fn fill(table: &mut [i64], row: usize, start: usize, end: usize, value: i64)
     }
 }
 
-// The band of a stage that is driven over delay `d`, under the driving stage's own limit.
-pub fn branch(
-    table: &mut [i64],
-    from: usize,
-    out: usize,
-    start: usize,
-    end: usize,
-    d: u64,
-    limit: i64,
-)
-    requires { ⌜ BranchIn (now table) from out start end d limit ⌝ }
-    ensures { λ _. ⌜ Branched (now (table .entry)) (now (table .exit)) from out start end d limit ⌝ }
+// A band over a delay: its row, its columns, and the delay.
+pub struct Part {
+    pub row: usize,
+    pub start: usize,
+    pub end: usize,
+    pub delay: u64,
+}
+
+// The band of a stage that is driven over a delay, under the driving stage's own limit.
+pub fn branch(table: &mut [i64], part: Part, out: usize, limit: i64)
+    requires { ⌜ BranchIn (now table) (part .row) out (part .start) (part .end) (part .delay) limit ⌝ }
+    ensures { λ _. ⌜ Branched (now (table .entry)) (now (table .exit)) (part .row) out (part .start) (part .end) (part .delay) limit ⌝ }
 {
-    let delay = d as i64;
-    let mut w = start;
+    let row = part.row;
+    let end = part.end;
+    let delay = part.delay as i64;
+    let mut w = part.start;
     while w < end {
-        let x = table[from + w] - delay;
+        let x = table[row + w] - delay;
         if x <= limit {
             table[out + w] = x;
         } else {
@@ -70,38 +72,31 @@ pub fn branch(
     }
 }
 
-// The band of row `a` from `sa` to before `ea` over delay `da` merged with that of row `b` from `sb` to before `eb` over delay `db`: of two pointers the one
-// with the lesser entry steps (source 001, section 4.2.2). The first column is sa + sb; gives the end, `width` at most.
-pub fn merge(
-    table: &mut [i64],
-    a: usize,
-    sa: usize,
-    ea: usize,
-    da: u64,
-    b: usize,
-    sb: usize,
-    eb: usize,
-    db: u64,
-    out: usize,
-    width: usize,
-) -> usize
-    requires { ⌜ MergeIn (now table) a sa ea da b sb eb db out width ⌝ }
-    ensures { λ r. ⌜ Merged (now (table .entry)) (now (table .exit)) a sa ea da b sb eb db out width r ⌝ }
+// Two bands merged: of two pointers the one with the lesser entry steps (source 001, section 4.2.2). The first column is the sum of theirs; gives the end,
+// `width` at most.
+pub fn merge(table: &mut [i64], a: Part, b: Part, out: usize, width: usize) -> usize
+    requires { ⌜ MergeIn (now table) (a .row) (a .start) (a .end) (a .delay) (b .row) (b .start) (b .end) (b .delay) out width ⌝ }
+    ensures { λ r. ⌜ Merged (now (table .entry)) (now (table .exit)) (a .row) (a .start) (a .end) (a .delay) (b .row) (b .start) (b .end) (b .delay)
+        out width r ⌝ }
 {
-    let delay_a = da as i64;
-    let delay_b = db as i64;
-    let mut i = sa;
-    let mut j = sb;
-    let mut w = sa + sb;
+    let row_a = a.row;
+    let end_a = a.end;
+    let delay_a = a.delay as i64;
+    let row_b = b.row;
+    let end_b = b.end;
+    let delay_b = b.delay as i64;
+    let mut i = a.start;
+    let mut j = b.start;
+    let mut w = a.start + b.start;
     while w < width {
-        if i == ea {
+        if i == end_a {
             return w;
         }
-        if j == eb {
+        if j == end_b {
             return w;
         }
-        let x = table[a + i] - delay_a;
-        let y = table[b + j] - delay_b;
+        let x = table[row_a + i] - delay_a;
+        let y = table[row_b + j] - delay_b;
         if x <= y {
             table[out + w] = x;
             i += 1;
@@ -114,17 +109,19 @@ pub fn merge(
     width
 }
 
-// Row `out` becomes the better of itself and the columns of row `from` from `start` to before `end`, over delay `d` and at cost `c`. From the last column to
-// the first: in this order the compiler leaves the loop scalar, which takes half the instructions.
-pub fn spend(table: &mut [i64], from: usize, out: usize, start: usize, end: usize, c: usize, d: u64)
-    requires { ⌜ SpendIn (now table) from out start end c d ⌝ }
-    ensures { λ _. ⌜ Spent (now (table .entry)) (now (table .exit)) from out start end c d ⌝ }
+// Row `out` becomes the better of itself and the columns of a band, at cost `c`. From the last column to the first: in this order the compiler leaves the
+// loop scalar, which takes half the instructions.
+pub fn spend(table: &mut [i64], part: Part, out: usize, c: usize)
+    requires { ⌜ SpendIn (now table) (part .row) out (part .start) (part .end) c (part .delay) ⌝ }
+    ensures { λ _. ⌜ Spent (now (table .entry)) (now (table .exit)) (part .row) out (part .start) (part .end) c (part .delay) ⌝ }
 {
-    let delay = d as i64;
-    let mut i = end;
+    let row = part.row;
+    let start = part.start;
+    let delay = part.delay as i64;
+    let mut i = part.end;
     while start < i {
         i -= 1;
-        let x = table[from + i] - delay;
+        let x = table[row + i] - delay;
         let y = table[out + (c + i)];
         if y <= x {
             table[out + (c + i)] = x;

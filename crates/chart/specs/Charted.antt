@@ -12,8 +12,8 @@ use Rattle.rules.specs.Bytes.{maxStages}
 use Rattle.rules.specs.Chart.{chartShares, chartEntry, OnChart}
 
 -- Where the number for s and q stands: the lines one after the other.
-abbrev pub place : ℕ → ℕ → ℕ
-place s q = (s - 1) * chartShares + (q - 1)
+abbrev pub chartPlace : ℕ → ℕ → ℕ
+chartPlace s q = (s - 1) * chartShares + (q - 1)
 
 -- The number that is due at a place.
 abbrev pub due : ℕ → ℕ
@@ -35,11 +35,11 @@ carried i (x ∷ xs) e zero h = eqb-true x (due i) (and-left (eqb x (due i)) (fo
 carried i (x ∷ xs) e (suc k) h = carried (suc i) xs (and-right (eqb x (due i)) (follows (suc i) xs) e) k (omega arith) ∙ ap due (omega arith)
 
 -- The rule carried to each entry.
-pub charted-entry : {xs : List ℕ} → Charted xs → {s q : ℕ} → OnChart s q → getD xs (place s q) 0 ≡ chartEntry s q
-charted-entry {xs} C {s} {q} on = carried 0 xs (C .rule) (place s q) (omega (arith, C .whole)) ∙ cc (line, column)
+pub charted-entry : {xs : List ℕ} → Charted xs → {s q : ℕ} → OnChart s q → getD xs (chartPlace s q) 0 ≡ chartEntry s q
+charted-entry {xs} C {s} {q} on = carried 0 xs (C .rule) (chartPlace s q) (omega (arith, C .whole)) ∙ cc (line, column)
   where
-    line : (0 + place s q) / chartShares + 1 ≡ s
+    line : (0 + chartPlace s q) / chartShares + 1 ≡ s
     line = omega arith
 
-    column : (0 + place s q) % chartShares + 1 ≡ q
+    column : (0 + chartPlace s q) % chartShares + 1 ≡ q
     column = omega arith

@@ -8,9 +8,9 @@ use Rattle.facts.specs.Chart.{entry-low}
 use Rattle.text.proofs.Decimal.{decimal-length}
 
 -- The number for s and q.
-abbrev pub cell : ℕ → ℕ → List ℕ
-cell s q = decimal (chartEntry s q)
+abbrev pub printedEntry : ℕ → ℕ → List ℕ
+printedEntry s q = decimal (chartEntry s q)
 
 -- It has at most five digits.
-pub cell-length : (s q : ℕ) → OnChart s q → length (cell s q) ≤ 5
-cell-length s q on = decimal-length 4 (chartEntry s q) (entry-low s q on)
+pub printed-length : (s q : ℕ) → OnChart s q → length (printedEntry s q) ≤ 5
+printed-length s q on = decimal-length 4 (chartEntry s q) (entry-low s q on)

@@ -1,18 +1,9 @@
-// Reads a net from standard input and prints the counts that checking gives, or the number of the first fault.
+// Checks the net on standard input and prints one line: its counts, or the number of the first fault. No input is too long: what checking answers for its
+// first 65,536 bytes is the answer for all of it, by `check-front` in crates/longest/specs/Line.antt.
 fn main() {
     let mut net = io::large_buffer();
     let size = io::read_full(0, &mut net);
-    let answer = vorphiel::check(&net[..size]);
-    if answer.refusal == 0 {
-        io::write_all(1, b"nodes ");
-        io::print_decimal(1, answer.nodes);
-        io::write_all(1, b" stages ");
-        io::print_decimal(1, answer.stages);
-        io::write_all(1, b" layers ");
-        io::print_decimal(1, answer.layers);
-    } else {
-        io::write_all(1, b"refused ");
-        io::print_decimal(1, answer.refusal as u64);
-    }
-    io::write_all(1, b"\n");
+    let mut out = [0u8; 512];
+    let length = program::check_line(&net[..size], &mut out);
+    io::write_all(1, &out[..length]);
 }

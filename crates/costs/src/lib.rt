@@ -5,18 +5,22 @@ ghost use mathlib.Core.Path.{_≡_};
 ghost use mathlib.Core.List.{List};
 ghost use Prim.Native.Nat.{ℕ, _+_, _*_, _<_, _≤_};
 ghost use lib.ListN.{replicate};
+ghost use Rattle.rules.specs.Bytes.{maxLayers, maxStages};
 ghost use Rattle.rules.specs.Timing.{cost};
 ghost use Rattle.words.specs.Words.{netIn};
 ghost use Rattle.words.specs.Held.{Held};
 ghost use Rattle.tree.specs.Staged.{Staged};
 ghost use Rattle.tree.specs.Plans.{Fitting};
+ghost use Rattle.slices.specs.Rows.{RowSet};
 ghost use Rattle.costs.specs.Priced.{Priced};
-ghost use Rattle.costs.specs.Adding.{Adding, Room};
+ghost use Rattle.costs.specs.Adding.{Room, costWith};
 
 // Adds the costs of the edge to node j to those of stage t, on each layer.
 fn add_costs(words: &[u32], j: usize, layers: usize, t: usize, costs: &mut [u64])
     requires { ⌜ ((nodes : ℕ) × Held (now words) nodes layers × (1 ≤ j) × (j ≤ nodes)) × Room (netIn (now words)) j t layers (now costs) ⌝ }
-    ensures { λ r. ⌜ Adding (netIn (now (words .entry))) j t (now (costs .entry)) (now (costs .exit)) layers ⌝ }
+    ensures { λ r. ⌜
+        RowSet 0 maxLayers (now (costs .entry)) (now (costs .exit)) t layers (costWith (netIn (now (words .entry))) j t (now (costs .entry)))
+        ⌝ }
 {
     let mut l: usize = 0;
     while l < layers {
@@ -25,10 +29,10 @@ fn add_costs(words: &[u32], j: usize, layers: usize, t: usize, costs: &mut [u64]
     }
 }
 
-// The cost of each stage on each layer: entry t * 16 + l becomes that of stage t on layer l.
+// The cost of each stage on each layer: entry t * MAX_LAYERS + l becomes that of stage t on layer l.
 pub fn stage_costs(words: &[u32], layers: usize, nodes: usize, stage: &[usize], costs: &mut [u64])
     requires { ⌜
-        ((below : List ℕ) × Held (now words) nodes layers × Staged (netIn (now words)) (now stage) below × (now costs ≡ replicate 1024 0))
+        ((below : List ℕ) × Held (now words) nodes layers × Staged (netIn (now words)) (now stage) below × (now costs ≡ replicate (maxStages * maxLayers) 0))
         ⌝ }
     ensures { λ r. ⌜ Priced (netIn (now (words .entry))) (now (costs .exit)) ⌝ }
 {

@@ -10,7 +10,7 @@ use mir.Syntax.{w64}
 use mir.Val.{Fits}
 use Rattle.rules.specs.declared.Kind.{Kind}
 use Rattle.rules.specs.Tree.{Net, stages, stageOf, layerCount, on}
-use Rattle.rules.specs.Bytes.{maxGateRes, maxLayers}
+use Rattle.rules.specs.Bytes.{maxGateRes, maxLayers, maxNodes}
 use Rattle.rules.specs.Timing.{layer}
 use Rattle.facts.specs.Ranges.{maxEdgeRes, maxEdgeCap}
 use Rattle.facts.specs.Loads.{maxLoad}
@@ -22,7 +22,8 @@ use Rattle.words.specs.Held.{Held, held-accepted}
 use Rattle.tree.specs.Staged.{Staged}
 use Rattle.tree.specs.declared.Gate.{Gate}
 use Rattle.tree.specs.declared.Gate.the-variants.{Root, Wire}
-use Rattle.delays.specs.Tables.{entry, Row, RowIn, Filling, row-before, place-in, row-kept, next-kept, fill-more}
+use Rattle.slices.specs.Rows.{entry, Setting, row-before, place-in, row-kept, next-kept, setting-more}
+use Rattle.delays.specs.Tables.{NodeRow, RowMost}
 use Rattle.delays.specs.Columns.{Columns}
 use Rattle.delays.specs.Edges.{lowerOf, resOn, capOn, addedOn, edgeOn, EdgeIn}
 use Rattle.delays.specs.Delayed.{GateIn, startOf, delayOn}
@@ -34,10 +35,10 @@ columns-few l w H h = omega (arith, held-accepted H .few-layers, H .layers-are)
 -- Column c of row i.
 pub record Place (w : ℕ) (table : List ℕ) (i c : ℕ) : Type 0 where
   pub inside : i * w + c < length table
-  pub small : i * w + c < 4096
+  pub small : i * w + c < (maxNodes + 1) * maxLayers
 
-place : {w : ℕ} {old table : List ℕ} {i c : ℕ} → w ≤ maxLayers → Row w old i → length table ≡ length old → c < w → Place w table i c
-place {w} {i = i} {c = c} few R e h = record { inside = omega (arith, place-in R h); small = omega (arith, row-before w i 256 c h (R .node-in)) }
+place : {w : ℕ} {old table : List ℕ} {i c : ℕ} → w ≤ maxLayers → NodeRow w old i → length table ≡ length old → c < w → Place w table i c
+place {w} {i = i} {c = c} few R e h = record { inside = omega (arith, place-in R h); small = omega (arith, row-before w i (maxNodes + 1) c h (R .row-in)) }
 
 -- Adding an edge to the load at its upper end.
 pub record LoadAdded (n : Net) (w : ℕ) (old table : List ℕ) (len : ℕ) (kind : Kind) (l j parent c : ℕ) : Type 0 where
@@ -47,22 +48,22 @@ pub record LoadAdded (n : Net) (w : ℕ) (old table : List ℕ) (len : ℕ) (kin
   pub lower-in : lowerOf kind (entry w table j c) ≤ maxLoad
   pub own-in : entry w table parent c ≤ maxLoad
   pub onward : {x y : ℕ} → x ≡ layer n (l + c) .unitCap → y ≡ lowerOf kind (entry w table j c)
-      → Filling w old (set table (parent * w + c) (entry w table parent c + len * x + y)) parent (c + 1)
+      → Setting 0 w old (set table (parent * w + c) (entry w table parent c + len * x + y)) parent w (c + 1)
       (λ k. entry w old parent k + addedOn n w old len kind l j k)
 
 pub load-added : {n : Net} {w : ℕ} {old table : List ℕ} {len : ℕ} {kind : Kind} {l j parent c : ℕ} → w ≤ maxLayers → EdgeIn n w old len kind l j
-    → RowIn w old parent maxLoad → parent < j → Filling w old table parent c (λ k. entry w old parent k + addedOn n w old len kind l j k) → c < w
+    → RowMost w old parent maxLoad → parent < j → Setting 0 w old table parent w c (λ k. entry w old parent k + addedOn n w old len kind l j k) → c < w
     → LoadAdded n w old table len kind l j parent c
 load-added {n} {w} {old} {table} {len} {kind} {l} {j} {parent} {c} few E P less F h =
     let below : entry w table j c ≡ entry w old j c = row-kept (F .so-far) j c h (λ q. omega arith) in
-    let before : entry w table parent c ≡ entry w old parent c = next-kept (F .so-far) h in
+    let before : entry w table parent c ≡ entry w old parent c = next-kept F (omega arith) h in
     record {
       own = place few (P .row) (F .so-far .long) h;
       lower = place few (E .row) (F .so-far .long) h;
       cap-in = E .cap-in c h;
       lower-in = rw below (E .lower-in c h);
       own-in = rw before (P .each c h);
-      onward = λ ex ey. fill-more _ (P .row) F h (rw (ex, ey, below, before) (omega arith));
+      onward = λ ex ey. setting-more _ (P .row) (omega arith) F h (rw (ex, ey, below, before) (omega arith));
     }
 
 -- A start of an edge is no later than half the range of times.
@@ -83,11 +84,11 @@ pub record DelaySet (n : Net) (w : ℕ) (table old delay : List ℕ) (gate : Gat
   pub start-in : startOf gate (entry w table parent c) (entry w delay parent c) ≤ halfRange
   pub edge-in : edgeOn n w table len kind l j c ≤ maxEdgeDelay
   pub onward : {x : ℕ} → x ≡ startOf gate (entry w table parent c) (entry w delay parent c) + edgeOn n w table len kind l j c
-      → Filling w old (set delay (j * w + c) x) j (c + 1) (delayOn n w table old gate len kind l parent j)
+      → Setting 0 w old (set delay (j * w + c) x) j w (c + 1) (delayOn n w table old gate len kind l parent j)
 
 pub delay-set : {n : Net} {w : ℕ} {table old delay : List ℕ} {gate : Gate} {len : ℕ} {kind : Kind} {l parent j c : ℕ} → w ≤ maxLayers → GateIn gate
-    → RowIn w table parent maxLoad → (gate ≡ Wire → RowIn w old parent halfRange) → parent < j → Row w old j → EdgeIn n w table len kind l j
-    → Filling w old delay j c (delayOn n w table old gate len kind l parent j) → c < w → DelaySet n w table old delay gate len kind l parent j c
+    → RowMost w table parent maxLoad → (gate ≡ Wire → RowMost w old parent halfRange) → parent < j → NodeRow w old j → EdgeIn n w table len kind l j
+    → Setting 0 w old delay j w c (delayOn n w table old gate len kind l parent j) → c < w → DelaySet n w table old delay gate len kind l parent j c
 delay-set {n} {w} {table} {old} {delay} {gate} {len} {kind} {l} {parent} {j} {c} few G P U less R E F h =
     let above : entry w delay parent c ≡ entry w old parent c = row-kept (F .so-far) parent c h (λ q. omega arith) in
     let res = E .res-in c h in
@@ -97,7 +98,7 @@ delay-set {n} {w} {table} {old} {delay} {gate} {len} {kind} {l} {parent} {j} {c}
     record {
       own = place few R (F .so-far .long) h;
       own-load = place few (E .row) refl h;
-      upper = place {old = old} few (record { node-in = omega (arith, R .node-in); long = R .long }) (F .so-far .long) h;
+      upper = place {old = old} few (record { row-in = omega (arith, R .row-in); long = R .long }) (F .so-far .long) h;
       upper-load = place few (P .row) refl h;
       load-in = P .each c h;
       res-in = res;
@@ -105,7 +106,7 @@ delay-set {n} {w} {table} {old} {delay} {gate} {len} {kind} {l} {parent} {j} {c}
       lower-in = lower;
       start-in = start-low gate G (P .each c h) (λ q. rw above (U q .each c h));
       edge-in = mul-le-mul res sum;
-      onward = λ e. fill-more _ R F h (rw (e, above) refl);
+      onward = λ e. setting-more _ R (omega arith) F h (rw (e, above) refl);
     }
 
 -- The products of an edge delay and of a gate delay.

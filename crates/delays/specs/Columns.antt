@@ -8,10 +8,12 @@ use native.Mathlib.Decide.{decLt}
 use lib.ListN.{length, getD, replicate, length-replicate, getD-replicate, List·getD-eq-default}
 use Rattle.rules.specs.declared.Kind.the-variants.{Steiner}
 use Rattle.rules.specs.Tree.{Net, at, stageOf, stages, layerCount, on}
+use Rattle.rules.specs.Bytes.{maxStages}
 use Rattle.facts.specs.Accepted.{Accepted}
 use Rattle.tree.specs.Staged.{stageBelow, stage-is-below, below-is}
 use Rattle.tree.specs.Plans.{Fitting}
 
+-- The columns of each stage stand for layers that there are.
 pub record Columns (n : Net) (first : List ℕ) (w : ℕ) : Type 0 where
   pub inside : (t : ℕ) → t < stages n → on first t + w ≤ layerCount n
   pub long : stages n ≤ length first
@@ -29,10 +31,10 @@ zeros m k = go (decLt k m)
     go (no h) = List·getD-eq-default (replicate {A = ℕ} m 0) 0 (omega (arith, length-replicate {A = ℕ} m 0))
 
 -- Zeros give each stage all layers.
-pub layer-columns : {n : Net} → Accepted n → {w : ℕ} → w ≡ layerCount n → Columns n (replicate {A = ℕ} 64 0) w
+pub layer-columns : {n : Net} → Accepted n → {w : ℕ} → w ≡ layerCount n → Columns n (replicate {A = ℕ} maxStages 0) w
 layer-columns A e = record {
-  inside = λ t h. omega (arith, zeros 64 t);
-  long = omega (arith, A .few-stages, length-replicate {A = ℕ} 64 0);
+  inside = λ t h. omega (arith, zeros maxStages t);
+  long = omega (arith, A .few-stages, length-replicate {A = ℕ} maxStages 0);
 }
 
 -- The wire below the upper end of an edge, and below its lower end if that is a Steiner point, is of the edge's stage, so the columns stand for the same

@@ -11,7 +11,7 @@ use Rattle.laws.specs.Basic.{if_then_else_}
 use Rattle.laws.specs.Booleans.{same-or}
 use Rattle.rules.specs.declared.Kind.{Kind}
 use Rattle.rules.specs.Tree.{Net, at, isRoot, drives, stageOf, on}
-use Rattle.rules.specs.Bytes.{maxGateRes, maxIntrinsic}
+use Rattle.rules.specs.Bytes.{maxGateRes, maxIntrinsic, maxNodes}
 use Rattle.rules.specs.Timing.{load, edgeDelay, gateRes, gateIntrinsic, gateDelay, wireDelay}
 use Rattle.facts.specs.Accepted.{Accepted}
 use Rattle.facts.specs.Stages.{not-root, root-drives, stage-root, stage-up}
@@ -22,9 +22,10 @@ use Rattle.facts.specs.Fits.{halfRange, delay-fits}
 use Rattle.tree.specs.declared.Gate.{Gate}
 use Rattle.tree.specs.declared.Gate.the-variants.{Root, Wire}
 use Rattle.tree.specs.Gates.{gateOf, root-gate, no-gate}
-use Rattle.delays.specs.Tables.{entry, Row, RowIn, Filled, row-kept}
+use Rattle.slices.specs.Rows.{entry, RowSet, row-kept}
+use Rattle.delays.specs.Tables.{NodeRow, RowMost}
 use Rattle.delays.specs.Columns.{layer-above, layer-below}
-use Rattle.delays.specs.Edges.{edgeOn, EdgeIn, LoadAt, edge-is, edge-in}
+use Rattle.delays.specs.Edges.{edgeOn, EdgeIn, LoadAt, edge-is, edge-rows}
 use Rattle.delays.specs.Loaded.{Loaded}
 
 -- The delay from the gate input of its stage to node j, on layer l.
@@ -38,12 +39,12 @@ startDelay n l i = if isRoot n i then gateDelay n l (drives n i) else delayTo n 
 -- Entry j * w + c is the delay to node j, on the layer that column c of the stage of edge j stands for.
 pub record Delayed (n : Net) (first : List ℕ) (w : ℕ) (delay : List ℕ) : Type 0 where
   pub each : (j c : ℕ) → 1 ≤ j → j ≤ length (n .nodes) → c < w → entry w delay j c ≡ delayTo n (on first (stageOf n j) + c) j
-  pub long : 256 * w ≤ length delay
+  pub long : (maxNodes + 1) * w ≤ length delay
 
 -- Under a plan, with one column: entry j is the delay to node j.
 pub record PlanDelays (n : Net) (plan delay : List ℕ) : Type 0 where
   pub each : (j : ℕ) → 1 ≤ j → j ≤ length (n .nodes) → getD delay j 0 ≡ delayTo n (on plan (stageOf n j)) j
-  pub long : 256 ≤ length delay
+  pub long : maxNodes + 1 ≤ length delay
 
 pub plan-delays : {n : Net} {plan delay : List ℕ} → Delayed n plan 1 delay → PlanDelays n plan delay
 plan-delays {n} {plan} {delay} D = record { each = λ j a b. here j a b; long = D .long }
@@ -57,7 +58,7 @@ plan-delays {n} {plan} {delay} D = record { each = λ j a b. here j a b; long = 
 -- On every layer, with a column for each: entry j * w + l is the delay to node j on layer l, w being the number of layers.
 pub record LayerDelays (n : Net) (w : ℕ) (delay : List ℕ) : Type 0 where
   pub each : (j l : ℕ) → 1 ≤ j → j ≤ length (n .nodes) → l < w → entry w delay j l ≡ delayTo n l j
-  pub long : 256 * w ≤ length delay
+  pub long : (maxNodes + 1) * w ≤ length delay
 
 pub layer-delays : {n : Net} {first : List ℕ} {w : ℕ} {delay : List ℕ} → ((t : ℕ) → on first t ≡ 0) → Delayed n first w delay → LayerDelays n w delay
 layer-delays {n} {first} {w} {delay} zeros D = record { each = λ j l a b h. here j l a b h; long = D .long }
@@ -106,9 +107,9 @@ pub record Delaying (n : Net) (first : List ℕ) (w : ℕ) (delay : List ℕ) (j
   pub some : 1 ≤ j
   pub inside : j ≤ length (n .nodes) + 1
   pub each : (i c : ℕ) → 1 ≤ i → i < j → c < w → entry w delay i c ≡ delayTo n (on first (stageOf n i) + c) i
-  pub long : 256 * w ≤ length delay
+  pub long : (maxNodes + 1) * w ≤ length delay
 
-pub delaying-start : (n : Net) (first : List ℕ) {w : ℕ} {delay : List ℕ} → 256 * w ≤ length delay → Delaying n first w delay 1
+pub delaying-start : (n : Net) (first : List ℕ) {w : ℕ} {delay : List ℕ} → (maxNodes + 1) * w ≤ length delay → Delaying n first w delay 1
 delaying-start n first e = record { some = omega arith; inside = omega arith; each = λ i c a b d. absurd (omega arith); long = e }
 
 pub delaying-end : {n : Net} {first : List ℕ} {w : ℕ} {delay : List ℕ} {j : ℕ} → Delaying n first w delay j → length (n .nodes) < j → Delayed n first w delay
@@ -118,11 +119,11 @@ delaying-end D h = record { each = λ j c a b d. D .each j c a (omega arith) d; 
 pub record DelayTurn (n : Net) (first : List ℕ) (w : ℕ) (table delay : List ℕ) (gate : Gate) (l j : ℕ) : Type 0 where
   pub parent-lower : at n j .parent < j
   pub gate-in : GateIn gate
-  pub parent-row : RowIn w table (at n j .parent) maxLoad
-  pub upper-row : gate ≡ Wire → RowIn w delay (at n j .parent) halfRange
-  pub own-row : Row w delay j
+  pub parent-row : RowMost w table (at n j .parent) maxLoad
+  pub upper-row : gate ≡ Wire → RowMost w delay (at n j .parent) halfRange
+  pub own-row : NodeRow w delay j
   pub edge : EdgeIn n w table (at n j .len) (at n j .kind) l j
-  pub onward : {delay′ : List ℕ} → Filled w delay delay′ j w (delayOn n w table delay gate (at n j .len) (at n j .kind) l (at n j .parent) j)
+  pub onward : {delay′ : List ℕ} → RowSet 0 w delay delay′ j w (delayOn n w table delay gate (at n j .len) (at n j .kind) l (at n j .parent) j)
       → Delaying n first w delay′ (j + 1)
 
 module _ {n : Net} (A : Accepted n) {first : List ℕ} {w : ℕ} {table delay : List ℕ} {gate : Gate} {l j : ℕ}
@@ -134,8 +135,8 @@ module _ {n : Net} (A : Accepted n) {first : List ℕ} {w : ℕ} {table delay : 
   lower : p < j
   lower = A .parent-lower j (D .some)
 
-  own : Row w delay j
-  own = record { node-in = omega (arith, A .few-nodes); long = D .long }
+  own : NodeRow w delay j
+  own = record { row-in = omega (arith, A .few-nodes); long = D .long }
 
   below : LoadAt n w table l j
   below = record {
@@ -177,15 +178,15 @@ module _ {n : Net} (A : Accepted n) {first : List ℕ} {w : ℕ} {table delay : 
     parent-lower = lower;
     gate-in = gate-fine;
     parent-row = record {
-      row = record { node-in = omega (arith, lower, A .few-nodes); long = T .long };
+      row = record { row-in = omega (arith, lower, A .few-nodes); long = T .long };
       each = λ c b. rw (load-is c b) (load-in A (l + c) p);
     };
     upper-row = λ q. record {
-      row = record { node-in = omega (arith, lower, A .few-nodes); long = D .long };
+      row = record { row-in = omega (arith, lower, A .few-nodes); long = D .long };
       each = λ c b. omega (arith, wire-is (is-wire q) c b, delay-below A (l + c) p (not-root A p (is-wire q) .0) (omega (arith, lower)));
     };
     own-row = own;
-    edge = edge-in below A (record { node-in = own .node-in; long = T .long });
+    edge = edge-rows below A (record { row-in = own .row-in; long = T .long });
     onward = λ F. record {
       some = omega arith;
       inside = omega arith;
@@ -194,7 +195,7 @@ module _ {n : Net} (A : Accepted n) {first : List ℕ} {w : ℕ} {table delay : 
     };
   }
     where
-      go : {delay′ : List ℕ} → Filled w delay delay′ j w (delayOn n w table delay gate (at n j .len) (at n j .kind) l p j)
+      go : {delay′ : List ℕ} → RowSet 0 w delay delay′ j w (delayOn n w table delay gate (at n j .len) (at n j .kind) l p j)
           → (i c : ℕ) → 1 ≤ i → i < j + 1 → c < w → (i ≡ j) ⊎ (i ≡ j → ⊥) → entry w delay′ i c ≡ delayTo n (on first (stageOf n i) + c) i
-      go F i c a b d (inl q) = rw (q, ← e) (F .filled c d ∙ rw (start-is c d, edge-is below c d) (sym (delay-is A (l + c) j (D .some))))
+      go F i c a b d (inl q) = rw (q, ← e) (F .set-to c d ∙ rw (start-is c d, edge-is below c d) (sym (delay-is A (l + c) j (D .some))))
       go F i c a b d (inr ne) = row-kept F i c d ne ∙ D .each i c a (omega arith) d

@@ -10,7 +10,8 @@ use Rattle.rules.specs.Timing.{layer, edgeRes, edgeCap, load, edgeDelay}
 use Rattle.facts.specs.Accepted.{Accepted}
 use Rattle.facts.specs.Ranges.{maxEdgeRes, maxEdgeCap, edge-res-in, edge-cap-in}
 use Rattle.facts.specs.Loads.{maxLoad, addedLoad, lower-in}
-use Rattle.delays.specs.Tables.{entry, Row}
+use Rattle.slices.specs.Rows.{entry}
+use Rattle.delays.specs.Tables.{NodeRow}
 
 -- The load at the lower end of an edge to a node of this kind: what is below a Steiner point, a terminal's input capacitance.
 abbrev pub lowerOf : Kind → ℕ → ℕ
@@ -33,7 +34,7 @@ edgeOn n w table len kind l j c = resOn n len (l + c) * (capOn n len (l + c) + 2
 
 -- These numbers are in their bounds in each of the columns.
 pub record EdgeIn (n : Net) (w : ℕ) (table : List ℕ) (len : ℕ) (kind : Kind) (l j : ℕ) : Type 0 where
-  pub row : Row w table j
+  pub row : NodeRow w table j
   pub res-in : (c : ℕ) → c < w → resOn n len (l + c) ≤ maxEdgeRes
   pub cap-in : (c : ℕ) → c < w → capOn n len (l + c) ≤ maxEdgeCap
   pub lower-in : (c : ℕ) → c < w → lowerOf kind (entry w table j c) ≤ maxLoad
@@ -60,9 +61,9 @@ module _ {n : Net} {w : ℕ} {table : List ℕ} {l j : ℕ} (B : LoadAt n w tabl
   unfolding edgeDelay edgeRes edgeCap
   edge-is c h = rw (lower-is c h) refl
 
-  pub edge-in : Accepted n → Row w table j → EdgeIn n w table (at n j .len) (at n j .kind) l j
+  pub edge-rows : Accepted n → NodeRow w table j → EdgeIn n w table (at n j .len) (at n j .kind) l j
   unfolding edgeRes edgeCap
-  edge-in A R = record {
+  edge-rows A R = record {
     row = R;
     res-in = λ c h. edge-res-in A (l + c) j;
     cap-in = λ c h. edge-cap-in A (l + c) j;

@@ -12,26 +12,28 @@ use borrow.Author.Tests.{eq-eqb, ne-eqb}
 use Rattle.laws.specs.Basic.{if_then_else_}
 use Rattle.laws.specs.Booleans.{same-or}
 use Rattle.rules.specs.Tree.{Net, at, stageOf, on}
+use Rattle.rules.specs.Bytes.{maxNodes}
 use Rattle.rules.specs.Timing.{load}
 use Rattle.facts.specs.Accepted.{Accepted}
 use Rattle.facts.specs.Loads.{maxLoad, addedLoad, childLoad, load-children, load-after, load-in}
-use Rattle.delays.specs.Tables.{entry, Row, RowIn, Filled, row-kept}
+use Rattle.slices.specs.Rows.{entry, RowSet, row-kept}
 use Rattle.tree.specs.Staged.{stageBelow}
+use Rattle.delays.specs.Tables.{NodeRow, RowMost}
 use Rattle.delays.specs.Columns.{zeros, layer-above, layer-below}
-use Rattle.delays.specs.Edges.{addedOn, EdgeIn, LoadAt, added-is, edge-in}
+use Rattle.delays.specs.Edges.{addedOn, EdgeIn, LoadAt, added-is, edge-rows}
 
 -- Entry i * w + c is the load at node i, on the layer that column c of the stage below i stands for.
 pub record Loaded (n : Net) (first : List ℕ) (w : ℕ) (table : List ℕ) : Type 0 where
   pub each : (i c : ℕ) → i ≤ length (n .nodes) → c < w → entry w table i c ≡ load n (on first (stageBelow n i) + c) i
-  pub long : 256 * w ≤ length table
+  pub long : (maxNodes + 1) * w ≤ length table
 
 -- A table with no load yet.
 pub record Unloaded (w : ℕ) (table : List ℕ) : Type 0 where
   pub each : (k : ℕ) → getD table k 0 ≡ 0
-  pub long : 256 * w ≤ length table
+  pub long : (maxNodes + 1) * w ≤ length table
 
 -- An array of zeros is such a table (what a caller with a fresh array has).
-pub unloaded-zeros : (w m : ℕ) → 256 * w ≤ m → Unloaded w (replicate {A = ℕ} m 0)
+pub unloaded-zeros : (w m : ℕ) → (maxNodes + 1) * w ≤ m → Unloaded w (replicate {A = ℕ} m 0)
 unloaded-zeros w m e = record { each = zeros m; long = omega (arith, length-replicate {A = ℕ} m 0) }
 
 -- The pass when nodes 1 to j are still to come.
@@ -39,7 +41,7 @@ pub record Loading (n : Net) (first : List ℕ) (w : ℕ) (table : List ℕ) (j 
   pub inside : j ≤ length (n .nodes)
   pub each : (i c : ℕ) → i ≤ length (n .nodes) → c < w
       → entry w table i c ≡ childLoad n (on first (stageBelow n i) + c) i (suc j) (length (n .nodes) - j)
-  pub long : 256 * w ≤ length table
+  pub long : (maxNodes + 1) * w ≤ length table
 
 pub loading-start : (n : Net) (first : List ℕ) {w : ℕ} {table : List ℕ} {nodes : ℕ} → nodes ≡ length
     (n .nodes) → Unloaded w table → Loading n first w table nodes
@@ -68,9 +70,9 @@ child-more n l i j c = refl
 pub record LoadTurn (n : Net) (first : List ℕ) (w : ℕ) (table : List ℕ) (l j : ℕ) : Type 0 where
   pub parent-lower : at n j .parent < j
   pub edge : EdgeIn n w table (at n j .len) (at n j .kind) l j
-  pub parent-row : RowIn w table (at n j .parent) maxLoad
+  pub parent-row : RowMost w table (at n j .parent) maxLoad
   pub onward : {table′ : List ℕ}
-      → Filled w table table′ (at n j .parent) w (λ c. entry w table (at n j .parent) c + addedOn n w table (at n j .len) (at n j .kind) l j c)
+      → RowSet 0 w table table′ (at n j .parent) w (λ c. entry w table (at n j .parent) c + addedOn n w table (at n j .len) (at n j .kind) l j c)
       → Loading n first w table′ (j - 1)
 
 module _ {n : Net} (A : Accepted n) where
@@ -84,7 +86,7 @@ module _ {n : Net} (A : Accepted n) where
       (stageOf n j) → LoadTurn n first w table l j
   load-turn {first} {w} {table} {l} {j} G h e = record {
     parent-lower = lower;
-    edge = edge-in whole A (row j (omega (arith, G .inside, A .few-nodes)));
+    edge = edge-rows whole A (row j (omega (arith, G .inside, A .few-nodes)));
     parent-row = record { row = row p (omega (arith, lower, G .inside, A .few-nodes)); each = parent-in };
     onward = λ F. record {
       inside = omega (arith, G .inside);
@@ -103,8 +105,8 @@ module _ {n : Net} (A : Accepted n) where
       on-is : on first (stageBelow n p) ≡ l
       on-is = layer-above A first h e
 
-      row : (i : ℕ) → i < 256 → Row w table i
-      row i b = record { node-in = b; long = G .long }
+      row : (i : ℕ) → i < maxNodes + 1 → NodeRow w table i
+      row i b = record { row-in = b; long = G .long }
 
       whole : LoadAt n w table l j
       whole = record {
@@ -128,13 +130,13 @@ module _ {n : Net} (A : Accepted n) where
           let r : length (n .nodes) - (j - 1) ≡ suc (length (n .nodes) - j) = omega (arith, G .inside) in
           rw (q, r) (child-more n m i j (length (n .nodes) - j))
 
-      go : {table′ : List ℕ} → Filled w table table′ p w (λ c. entry w table p c + addedOn n w table (at n j .len) (at n j .kind) l j c)
+      go : {table′ : List ℕ} → RowSet 0 w table table′ p w (λ c. entry w table p c + addedOn n w table (at n j .len) (at n j .kind) l j c)
           → (i c : ℕ) → i ≤ length (n .nodes) → c < w → (i ≡ p) ⊎ (i ≡ p → ⊥)
           → entry w table′ i c ≡ childLoad n (on first (stageBelow n i) + c) i (suc (j - 1)) (length (n .nodes) - (j - 1))
       go F i c a b (inl q) =
           let m = more p (l + c) in
           let s = rw (eq-eqb p p refl) at m in
-          rw (q, on-is) (omega (arith, F .filled c b, added-is whole c b, held c b, s))
+          rw (q, on-is) (omega (arith, F .set-to c b, added-is whole c b, held c b, s))
       go F i c a b (inr ne) =
           let m = more i (on first (stageBelow n i) + c) in
           let s = rw (ne-eqb p i (λ q. ne (sym q))) at m in

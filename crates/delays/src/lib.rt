@@ -12,7 +12,7 @@ ghost use mathlib.Core.Path.{_≡_};
 ghost use mathlib.Core.List.{List};
 ghost use Prim.Native.Nat.{ℕ, _+_, _*_, _≤_, _<_};
 ghost use lib.ListN.{length};
-ghost use Rattle.rules.specs.Bytes.{maxGateRes, maxIntrinsic};
+ghost use Rattle.rules.specs.Bytes.{maxGateRes, maxIntrinsic, maxLayers, maxNodes};
 ghost use Rattle.facts.specs.Ranges.{maxEdgeRes, maxEdgeCap};
 ghost use Rattle.facts.specs.Loads.{maxLoad};
 ghost use Rattle.facts.specs.Fits.{halfRange};
@@ -21,11 +21,15 @@ ghost use Rattle.words.specs.Held.{Held};
 ghost use Rattle.tree.specs.Staged.{Staged};
 ghost use Rattle.tree.specs.Plans.{Fitting};
 ghost use Rattle.tree.specs.declared.Gate.the-variants.{Wire};
-ghost use Rattle.delays.specs.Tables.{entry, Row, RowIn, Filled};
+ghost use Rattle.slices.specs.Rows.{entry, RowSet};
+ghost use Rattle.delays.specs.Tables.{NodeRow, RowMost};
 ghost use Rattle.delays.specs.Columns.{Columns};
 ghost use Rattle.delays.specs.Edges.{EdgeIn, lowerOf, addedOn};
 ghost use Rattle.delays.specs.Loaded.{Loaded, Unloaded};
 ghost use Rattle.delays.specs.Delayed.{Delayed, PlanDelays, LayerDelays, GateIn, startOf, delayOn};
+
+// The rows of a table by node: the driver's and one for each node.
+pub const NODE_ROWS: usize = rules::MAX_NODES + 1;
 
 // The load at the lower end of an edge to a node of this kind: what is below a Steiner point, a terminal's input capacitance.
 fn lower_load(kind: Kind, below: u64) -> u64
@@ -59,10 +63,10 @@ fn add_loads(
 )
     requires { ⌜
         ((nodes : ℕ) × (layers : ℕ) × Held (now words) nodes layers × (layer + columns ≤ layers)) ×
-        EdgeIn (netIn (now words)) columns (now load) len kind layer j × RowIn columns (now load) parent maxLoad × (parent < j)
+        EdgeIn (netIn (now words)) columns (now load) len kind layer j × RowMost columns (now load) parent maxLoad × (parent < j)
         ⌝ }
     ensures { λ r. ⌜
-        Filled columns (now (load .entry)) (now (load .exit)) parent columns
+        RowSet 0 columns (now (load .entry)) (now (load .exit)) parent columns
         (λ c. entry columns (now (load .entry)) parent c + addedOn (netIn (now (words .entry))) columns (now (load .entry)) len kind layer j c)
         ⌝ }
 {
@@ -148,11 +152,11 @@ fn set_delays(
 )
     requires { ⌜
         ((nodes : ℕ) × (layers : ℕ) × Held (now words) nodes layers × (layer + columns ≤ layers)) ×
-        GateIn gate × RowIn columns (now load) parent maxLoad × (gate ≡ Wire → RowIn columns (now delay) parent halfRange) × (parent < j) ×
-        Row columns (now delay) j × EdgeIn (netIn (now words)) columns (now load) len kind layer j
+        GateIn gate × RowMost columns (now load) parent maxLoad × (gate ≡ Wire → RowMost columns (now delay) parent halfRange) × (parent < j) ×
+        NodeRow columns (now delay) j × EdgeIn (netIn (now words)) columns (now load) len kind layer j
         ⌝ }
     ensures { λ r. ⌜
-        Filled columns (now (delay .entry)) (now (delay .exit)) j columns
+        RowSet 0 columns (now (delay .entry)) (now (delay .exit)) j columns
         (delayOn (netIn (now (words .entry))) columns (now (load .entry)) (now (delay .entry)) gate len kind layer parent j)
         ⌝ }
 {
@@ -183,7 +187,8 @@ fn delays(
 )
     requires { ⌜
         ((layers : ℕ) × Held (now words) nodes layers) × ((below : List ℕ) × Staged (netIn (now words)) (now stage) below) ×
-        Columns (netIn (now words)) (now first) columns × Loaded (netIn (now words)) (now first) columns (now load) × (256 * columns ≤ length (now delay))
+        Columns (netIn (now words)) (now first) columns × Loaded (netIn (now words)) (now first) columns (now load) ×
+        ((maxNodes + 1) * columns ≤ length (now delay))
         ⌝ }
     ensures { λ r. ⌜ Delayed (netIn (now (words .entry))) (now (first .entry)) columns (now (delay .exit)) ⌝ }
 {
@@ -215,11 +220,11 @@ fn delays(
 pub fn plan_delays(words: &[u32], nodes: usize, stage: &[usize], plan: &[u8], delay: &mut [u64])
     requires { ⌜
         ((layers : ℕ) × Held (now words) nodes layers) × ((below : List ℕ) × Staged (netIn (now words)) (now stage) below) ×
-        Fitting (netIn (now words)) (now plan) × (length (now delay) ≡ 256)
+        Fitting (netIn (now words)) (now plan) × (length (now delay) ≡ maxNodes + 1)
         ⌝ }
     ensures { λ r. ⌜ PlanDelays (netIn (now (words .entry))) (now (plan .entry)) (now (delay .exit)) ⌝ }
 {
-    let mut load = [0u32; 256];
+    let mut load = [0u32; NODE_ROWS];
     loads(words, nodes, stage, plan, 1, &mut load);
     delays(words, nodes, stage, plan, 1, &load, delay);
 }
@@ -227,12 +232,12 @@ pub fn plan_delays(words: &[u32], nodes: usize, stage: &[usize], plan: &[u8], de
 // The delay to each node on each layer: entry j * layers + l becomes that of node j on layer l.
 pub fn layer_delays(words: &[u32], layers: usize, nodes: usize, stage: &[usize], delay: &mut [u64])
     requires { ⌜
-        Held (now words) nodes layers × ((below : List ℕ) × Staged (netIn (now words)) (now stage) below) × (length (now delay) ≡ 4096)
+        Held (now words) nodes layers × ((below : List ℕ) × Staged (netIn (now words)) (now stage) below) × (length (now delay) ≡ (maxNodes + 1) * maxLayers)
         ⌝ }
     ensures { λ r. ⌜ LayerDelays (netIn (now (words .entry))) layers (now (delay .exit)) ⌝ }
 {
-    let first = [0u8; 64];
-    let mut load = [0u32; 4096];
+    let first = [0u8; rules::MAX_STAGES];
+    let mut load = [0u32; NODE_ROWS * rules::MAX_LAYERS];
     loads(words, nodes, stage, &first, layers, &mut load);
     delays(words, nodes, stage, &first, layers, &load, delay);
 }

@@ -5,10 +5,10 @@ use mathlib.Core.Option.{Option, none, some}
 use mathlib.Core.List.{List, _++_}
 use Prim.Native.Nat.{ℕ, _+_, _*_, _≤_, _<_}
 use native.Mathlib.Omega.{arith}
-use lib.Dec.{leb, ltb, eqb}
+use lib.Dec.{leb, ltb}
 use lib.ListN.{length, take, drop}
 use lib.Seq.{take-at}
-use lib.IntN.{ℤ, pos}
+use lib.IntN.{ℤ}
 use borrow.Author.Tests.{le-leb, leb-false}
 use Rattle.laws.specs.Basic.{within}
 use Rattle.rules.specs.declared.Planned.{Planned}
@@ -16,12 +16,12 @@ use Rattle.rules.specs.Tree.{Net, stages, isPlan}
 use Rattle.rules.specs.Timing.{slack, meets, cost}
 use Rattle.rules.specs.Grain.{meetingPlans, grainExponent, chosen, columns, columnsNeeded}
 use Rattle.rules.specs.Reading.{Answer, accept, refuse, _>>=_, _>>_, _unless_, read}
-use Rattle.rules.specs.Planning.{maxShare, Choice, taken, planned, PlanAnswer, cleared, plan, IsFloor, planAnswer, enoughColumns, Plannable, Demand2, Demand3}
+use Rattle.rules.specs.Planning.{maxShare, Choice, taken, planned, PlanAnswer, cleared, plan, planAnswer, enoughColumns, Plannable, Demand2, Demand3}
 use Rattle.facts.specs.Answers.{not-refused, accept-injective, refuse-injective, then-accepted, unless-accepted}
-use Rattle.facts.specs.Accepted.{Accepted, accepted}
+use Rattle.facts.specs.Accepted.{accepted}
 use Rattle.facts.specs.Refusals.{Numbered, accept-numbered, refuse-numbered, then-numbered, unless-numbered, wider-numbered, read-numbered}
 use Rattle.demands.specs.Plans.{plan-length, some-plan-iff}
-use Rattle.demands.specs.Demand2.{ChosenPlan, chosen-some, chosen-is}
+use Rattle.demands.specs.Demand2.{chosen-some, chosen-is}
 use Rattle.demands.specs.Demand3.{near-cheapest}
 use Rattle.demands.specs.Columns.{columns-enough}
 
@@ -55,9 +55,9 @@ module _ (bs : List ℕ) (p q entries room : ℕ) where
     pub exponent-is : c .k ≡ grainExponent (c .net) p q
     pub chosen-here : chosen (c .net) (grainExponent (c .net) p q) ≡ some (c .plan)
 
-  pub settled : {c : Choice} → planned bs p q entries room ≡ accept c → Settled c
+  pub choice-settled : {c : Choice} → planned bs p q entries room ≡ accept c → Settled c
   unfolding planned
-  settled {c} e =
+  choice-settled {c} e =
       let (n, a, e1) = then-accepted (read bs) _ e in
       let (t9, e2) = unless-accepted 9 (leb p maxShare && within 1 maxShare q) _ e1 in
       let (t10, e3) = unless-accepted 10 (leb (stages n) room) _ e2 in
@@ -152,7 +152,7 @@ module _ (bs : List ℕ) (p q : ℕ) (table : List ℤ) (buffer : List ℕ) wher
     pub plan-taken : (n : Net) → read bs ≡ accept n → (c : Choice) → planned bs p q (length table) (length buffer) ≡ accept c
         → (chosen n (grainExponent n p q) ≡ some (c .plan)) × (take (stages n) after ≡ c .plan)
     plan-taken n h c e =
-        let S = settled bs p q (length table) (length buffer) e in
+        let S = choice-settled bs p q (length table) (length buffer) e in
         let w : c .net ≡ n = accept-injective (sym (S .holds) ∙ h) in
         let o : chosen n (grainExponent n p q) ≡ some (c .plan) = subst (λ (m : Net). chosen m (grainExponent m p q) ≡ some (c .plan)) w (S .chosen-here) in
         let b : after ≡ c .plan ++ drop (length (c .plan)) buffer = ap (λ (a : PlanAnswer). a .buffer) (same ∙ plan-accepted e) in
@@ -172,7 +172,7 @@ module _ (bs : List ℕ) (p q : ℕ) (table : List ℤ) (buffer : List ℕ) wher
         nearness n h (c, e) =
             let (o, t) = plan-taken n h c e in
             let C = chosen-is n (grainExponent n p q) (c .plan) o in
-            let S = settled bs p q (length table) (length buffer) e in
+            let S = choice-settled bs p q (length table) (length buffer) e in
             let w : c .net ≡ n = accept-injective (sym (S .holds) ∙ h) in
             let k : cost (c .net) (c .plan) ≡ cost n (c .plan) = ap (λ (m : Net). cost m (c .plan)) w in
             rw t (C .is-plan, C .meets-timing, sym k ∙ sym (ap (λ (a : PlanAnswer). a .cost) (same ∙ plan-accepted e)), near-cheapest (accepted bs n h) p q (c .plan) o)

@@ -1,21 +1,21 @@
 -- Refusal 12: the columns that planning needs. With p at least 1 they never exceed s plus 2qs/p rounded up (01, Rounded cost and the grain), because
 -- twice the grain does not qualify, and V at the grain is at most twice V at twice the grain, plus s.
 use mathlib.Core.Path.{_≡_}
-use mathlib.Core.Bool.{true, false}
-use Prim.Native.Nat.{ℕ, _+_, _*_, _≤_, _<_}
+use mathlib.Core.Bool.{true}
+use Prim.Native.Nat.{ℕ, _+_, _*_, _≤_}
 use native.Mathlib.Omega.{arith}
 use native.Mathlib.Nat.{le-div-iff-mul-le}
 use lib.Dec.{leb}
-use borrow.Author.Tests.{le-leb, lt-leb}
+use borrow.Author.Tests.{le-leb}
 use Rattle.rules.specs.Tree.{Net, stages}
-use Rattle.rules.specs.Grain.{maxExponent, leastRounded, qualifies, grainExponent, columns, columnsNeeded}
+use Rattle.rules.specs.Grain.{grainExponent, columns, columnsNeeded}
 use Rattle.facts.specs.Accepted.{Accepted}
 use Rattle.facts.specs.Stages.{stages-some}
 use Rattle.oracle.specs.Rounding.{dividedUp}
 use Rattle.oracle.specs.Value.{exponent, columns-bound}
 use Rattle.demands.specs.StageNumbers.{treeOf}
 use Rattle.demands.specs.Same.{value-same, exponent-same}
-use Rattle.demands.specs.Values.{either, small-costs, least-grain}
+use Rattle.demands.specs.Values.{either, small-costs}
 
 module _ {n : Net} (A : Accepted n) (p q : ℕ) where
   -- Refusal 12: the columns needed never exceed s plus 2qs/p rounded up, ..
@@ -33,9 +33,3 @@ module _ {n : Net} (A : Accepted n) (p q : ℕ) where
       let need = columns-most h in
       let have = le-div-iff-mul-le {k = stages n + 2} (omega arith) .1 room in
       le-leb (columnsNeeded n (grainExponent n p q)) (columns n entries) (omega arith)
-
-  -- Refusal 12: where none above k qualifies and V(k) has no column, V at the grain's k has none either.
-  pub columns-short : (k entries : ℕ) → ((j : ℕ) → k < j → j ≤ maxExponent → qualifies n p q j ≡ false) → columns n entries ≤ leastRounded n k
-      → leb (columnsNeeded n (grainExponent n p q)) (columns n entries) ≡ false
-  unfolding columnsNeeded
-  columns-short k entries none h = lt-leb (leastRounded n (grainExponent n p q) + 1) (columns n entries) (omega (arith, least-grain A p q k none))

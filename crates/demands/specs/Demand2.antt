@@ -4,29 +4,19 @@ use mathlib.Core.Path.{_≡_, sym, _∙_}
 use mathlib.Core.Bool.{Bool, true, _&&_}
 use mathlib.Core.Option.{some, Option·getD}
 use mathlib.Core.List.{List, [], _∷_, _++_, List·Memᴰ}
-use Prim.Native.Nat.{ℕ, _≤_}
+use Prim.Native.Nat.{ℕ}
 use native.Mathlib.Omega.{arith}
 use lib.Dec.{ltb, eqb}
 use lib.ListN.{length}
-use lib.IntN.{ℤ}
-use lib.Signed.{leZ}
-use borrow.Author.Tests.{eqb-true, eq-eqb, le-leb}
-use Rattle.laws.specs.Booleans.{and-both, both}
+use borrow.Author.Tests.{eqb-true, eq-eqb}
+use Rattle.laws.specs.Booleans.{and-both}
 use Rattle.laws.specs.Lists.{mem-keep, keep-mem, head-keep, find, find-keep}
 use Rattle.laws.specs.First.{find-some, find-split}
 use Rattle.laws.specs.Extremes.{lowest-some}
 use Rattle.rules.specs.Tree.{Net, isPlan, plans}
 use Rattle.rules.specs.Timing.{meets}
-use Rattle.rules.specs.Grain.{maxExponent, roundedCost, meetingPlans, leastRounded, chosen}
-use Rattle.facts.specs.Accepted.{Accepted}
-use Rattle.oracle.specs.Timing.{leastAt}
-use Rattle.oracle.specs.Value.{value}
-use Rattle.oracle.specs.Rows.{Dual}
-use Rattle.oracle.specs.Result.{readPlan, read-chosen, row-plan, entry-value}
-use Rattle.demands.specs.StageNumbers.{treeOf, well-formed}
-use Rattle.demands.specs.Same.{value-same, first-same}
-use Rattle.demands.specs.Plans.{mem-plan, plan-mem, some-plan-iff, meeting-is, some-meeting}
-use Rattle.demands.specs.Values.{least-top}
+use Rattle.rules.specs.Grain.{roundedCost, meetingPlans, leastRounded, chosen}
+use Rattle.demands.specs.Plans.{mem-plan, plan-mem, some-plan-iff}
 
 -- x is the plan that 01 chooses at k: the first in plan order among the plans that meet timing with rounded cost V(k).
 pub record ChosenPlan (n : Net) (k : ℕ) (x : List ℕ) : Type 0 where
@@ -71,22 +61,3 @@ module _ (n : Net) (k : ℕ) where
         in-order = order;
         none-earlier = λ y d m q. let f = rw (m, eq-eqb (roundedCost n k y) (leastRounded n k) q) at (fails y d) in let z : _≡_ {A = ℕ} 0 1 = cc in omega arith;
       }
-
-module _ {n : Net} (A : Accepted n) where
-  -- Demand 2: the plan chosen is the plan read off a table that has a column for V(k).
-  pub chosen-read : ltb 0 (length (meetingPlans n)) ≡ true → (k hi : ℕ) → leastRounded n k ≤ hi → chosen n k ≡ some (readPlan (treeOf n) k hi)
-  chosen-read e k hi h =
-      let (x, M) = some-meeting A e in
-      sym (first-same A k) ∙ read-chosen (treeOf n) k hi (well-formed A) x M (omega (arith, value-same A k))
-
-  -- Demand 2, refusal 11: with one column, at k = 28, some plan meets timing just where the entry of the driver's row is no earlier than the arrival time.
-  -- The row R may be made in any way that leaves it dual to the least charges.
-  pub some-plan-row : (lo : ℤ) → leZ lo (n .driver .arrival) ≡ true → (R : ℕ → ℤ) → Dual lo 0 R (leastAt (treeOf n) maxExponent 0 0)
-      → leZ (n .driver .arrival) (R 0) ≡ ltb 0 (length (meetingPlans n))
-  some-plan-row lo from-lo R D = both (leZ (n .driver .arrival) (R 0)) (ltb 0 (length (meetingPlans n)))
-      (λ e. let (x, M, r) = row-plan (treeOf n) maxExponent 0 (well-formed A) lo from-lo R D e in
-      let (p, m) = meeting-is A x M in
-      some-plan-iff n .1 (x, p, m))
-      (λ e. let (x, M) = some-meeting A e in
-      entry-value (treeOf n) maxExponent 0 (well-formed A) lo from-lo R D x M 0 (omega arith)
-      ∙ le-leb (value (treeOf n) maxExponent) 0 (omega (arith, value-same A maxExponent, least-top A)))

@@ -30,7 +30,7 @@ module _ {n : Net} (A : Accepted n) (p q : ℕ) (x : List ℕ) (is : chosen n (g
     below = grain-below A (grainExponent n p q);
     near =
         let first = ap (firstPlan (treeOf n)) (exponent-same A p q) ∙ first-same A (grainExponent n p q) ∙ is in
-        rw (← cost-same A x, ← exponent-same A p q, ← value-same A (exponent (treeOf n) p q)) (Result.near-cheapest (treeOf n) p q x first .1);
+        rw (← cost-same A x, ← exponent-same A p q, ← value-same A (exponent (treeOf n) p q)) (Result.floor-bounds (treeOf n) p q x first .1);
   }
 
   -- .. so q times its cost is at most (q + p) times the cost of every plan of the net that meets timing.

@@ -20,11 +20,11 @@ use Rattle.facts.specs.Stages.{EdgeOf, root-is-buffer, root-drives, stage-at, s
 use Rattle.facts.specs.Words.{sink-time, buffer-time, asked, required-is}
 use Rattle.oracle.specs.Stages.{drivenBy, planCosts, mem-driven, driven-mem}
 use Rattle.oracle.specs.Timing.{requiredTime, meetsTiming, requiredTime-is}
-use Rattle.demands.specs.StageNumbers.{delayTo, sinkLimit, sinkLimits, treeOf, limit-mem, mem-limit, driven-at, driven-higher, root-edge}
+use Rattle.demands.specs.StageNumbers.{stageDelay, sinkLimit, sinkLimits, treeOf, limit-mem, mem-limit, driven-at, driven-higher, root-edge}
 
 -- What the stages that stage t drives ask of its root on layer l, where f gives the required times of stages.
 abbrev drivenTimes : Net → (ℕ → ℤ) → ℕ → ℕ → List ℤ
-drivenTimes n f l t = map (λ u. f u -ℤ pos (delayTo n u l)) (drivenBy (treeOf n) t)
+drivenTimes n f l t = map (λ u. f u -ℤ pos (stageDelay n u l)) (drivenBy (treeOf n) t)
 
 -- What a sink asks of its root is the limit that it sets the stage, ..
 asked-sink : (n : Net) (f : ℕ → ℤ) (l t j : ℕ) → isSink (at n j .kind) ≡ true → asked n f l t j ≡ sinkLimit n t l j
@@ -39,8 +39,8 @@ asked-sink n f l t j s = go (at n j .kind) refl s
 module _ {n : Net} (A : Accepted n) where
   -- .. and what a buffer asks is the required time of the stage that it drives, less the delay to that stage.
   asked-buffer : (f : ℕ → ℤ) (l : ℕ) {t j : ℕ} → EdgeOf n t j → isBuffer (at n j .kind) ≡ true
-      → asked n f l t j ≡ f (drives n j) -ℤ pos (delayTo n (drives n j) l)
-  unfolding delayTo
+      → asked n f l t j ≡ f (drives n j) -ℤ pos (stageDelay n (drives n j) l)
+  unfolding stageDelay
   asked-buffer f l {t} {j} e b =
       rw (buffer-time n f j b, driven-at A e b, root-drives n j (e .inside) (root-is-buffer n j (e .after) ∙ b))
       (minus-minus (f (drives n j)) (gateDelay n l t) (wireDelay n l j))
@@ -66,13 +66,13 @@ module _ {n : Net} (A : Accepted n) where
             let (j, s, q) = limit-mem n t l m in
             at-terminal j (s .edge) (sink-ends (at n j .kind) (s .sink)) (q ∙ sym (asked-sink n f l t j (s .sink)))
         go (inr m) =
-            let (u, d, q) = map-mem (λ u. f u -ℤ pos (delayTo n u l)) (drivenBy (treeOf n) t) m in
+            let (u, d, q) = map-mem (λ u. f u -ℤ pos (stageDelay n u l)) (drivenBy (treeOf n) t) m in
             let (higher, below, by) = driven-mem (treeOf n) t u h d in
             let j = root n u in
             let e : EdgeOf n t j = rw by at (root-edge A u (omega arith) below) in
             let b = stage-buffer n u (omega arith) below .1 in
             at-terminal j e (buffer-ends (at n j .kind) b)
-            (q ∙ ap (λ (v : ℕ). f v -ℤ pos (delayTo n v l)) (sym (stage-at n u below .drives-it)) ∙ sym (asked-buffer f l e b))
+            (q ∙ ap (λ (v : ℕ). f v -ℤ pos (stageDelay n v l)) (sym (stage-at n u below .drives-it)) ∙ sym (asked-buffer f l e b))
 
     asked-is : (z : ℤ) → List·Memᴰ z (map (asked n f l t) (terminals n t)) → List·Memᴰ z (sinkLimits n t l ++ drivenTimes n f l t)
     asked-is z m =
@@ -86,7 +86,7 @@ module _ {n : Net} (A : Accepted n) where
         go j e s q (Buffer c g d) r =
             let b = ap isBuffer r in
             let m = mem-driven (treeOf n) t (drives n j) (driven-higher A e b) (drives-below n j (e .inside)) (driven-at A e b) in
-            Memᴰ·append-right (sinkLimits n t l) (Memᴰ·cast (q ∙ asked-buffer f l e b) (mem-map (λ u. f u -ℤ pos (delayTo n u l)) m))
+            Memᴰ·append-right (sinkLimits n t l) (Memᴰ·cast (q ∙ asked-buffer f l e b) (mem-map (λ u. f u -ℤ pos (stageDelay n u l)) m))
         go j e s q (Sink c g) r =
             let b = ap isSink r in
             Memᴰ·append-left (drivenTimes n f l t)
@@ -105,9 +105,9 @@ module _ {n : Net} (A : Accepted n) where
   required-from x (suc k) t h b =
       requiredTime-is (treeOf n) x t h
       ∙ ap (λ (zs : List ℤ). leastOf (sinkLimits n t (on x t) ++ zs))
-      (map-same (λ u. requiredTime (treeOf n) x u -ℤ pos (delayTo n u (on x t))) (λ u. required n x u -ℤ pos (delayTo n u (on x t))) (drivenBy (treeOf n) t)
+      (map-same (λ u. requiredTime (treeOf n) x u -ℤ pos (stageDelay n u (on x t))) (λ u. required n x u -ℤ pos (stageDelay n u (on x t))) (drivenBy (treeOf n) t)
       (λ u m. let (higher, below, by) = driven-mem (treeOf n) t u h m in
-      ap (λ (z : ℤ). z -ℤ pos (delayTo n u (on x t))) (required-from x k u below (omega arith))))
+      ap (λ (z : ℤ). z -ℤ pos (stageDelay n u (on x t))) (required-from x k u below (omega arith))))
       ∙ one-stage (required n x) t (on x t) h
       ∙ sym (required-is A x t h)
 

@@ -1,6 +1,6 @@
 -- Plans, V(k), the grain and the plan chosen by the tree of stages are those of 01 ('Rounded cost and the grain'): both are defined in the same words from
 -- meeting timing and stage costs, and these are the same.
-use mathlib.Core.Path.{_≡_, refl, ap, _∙_, fun-ext}
+use mathlib.Core.Path.{_≡_, ap, _∙_, fun-ext}
 use mathlib.Core.Bool.{Bool}
 use mathlib.Core.List.{List, head?}
 use Prim.Native.Nat.{ℕ, _*_, _-_, _^_}
@@ -11,19 +11,10 @@ use Rattle.rules.specs.Timing.{cost, stageCosts}
 use Rattle.rules.specs.Grain.{maxExponent, roundedCost, meetingPlans, leastRounded, qualifies, grainExponent, chosen}
 use Rattle.facts.specs.Accepted.{Accepted}
 use Rattle.facts.specs.Costs.{sum-costs}
-use Rattle.oracle.specs.Stages.{treePlans, planCosts}
-use Rattle.oracle.specs.Value.{planRounded, value, passes, exponent, firstPlan}
+use Rattle.oracle.specs.Stages.{planCosts}
+use Rattle.oracle.specs.Value.{value, passes, exponent, firstPlan}
 use Rattle.demands.specs.StageNumbers.{treeOf}
 use Rattle.demands.specs.Required.{meets-same, costs-same}
-
--- These hold of every net.
-pub plans-same : (n : Net) → treePlans (treeOf n) ≡ plans n
-unfolding plans
-plans-same n = refl
-
-pub rounded-same : (n : Net) (k : ℕ) (x : List ℕ) → planRounded (treeOf n) k x ≡ roundedCost n k x
-unfolding roundedCost stageCosts
-rounded-same n k x = refl
 
 module _ {n : Net} (A : Accepted n) where
   pub cost-same : (x : List ℕ) → sum (planCosts (treeOf n) x) ≡ cost n x

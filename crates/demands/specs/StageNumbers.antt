@@ -26,8 +26,8 @@ unfoldable pub drivingStage : Net → ℕ → ℕ
 drivingStage n t = stageOf n (root n t)
 
 -- The delay to stage t, the stage that drives it on layer l: that stage's gate delay plus the edge delays between (01, Timing rule; source 001, section 2).
-unfoldable pub delayTo : Net → ℕ → ℕ → ℕ
-delayTo n t l = gateDelay n l (drivingStage n t) + wireDelay n l (root n t)
+unfoldable pub stageDelay : Net → ℕ → ℕ → ℕ
+stageDelay n t l = gateDelay n l (drivingStage n t) + wireDelay n l (root n t)
 
 -- The sinks of stage t (01, The tree: its terminals are buffers and sinks).
 unfoldable pub sinksOf : Net → ℕ → List ℕ
@@ -48,7 +48,7 @@ treeOf n = record {
   stages = stages n;
   layers = layerCount n;
   driver = drivingStage n;
-  delay = delayTo n;
+  delay = stageDelay n;
   limits = sinkLimits n;
   cost = λ t l. stageCost n l t;
   arrival = n .driver .arrival;

@@ -3,16 +3,15 @@
 use mathlib.Core.Path.{_≡_, refl, sym, _∙_}
 use mathlib.Core.Bool.{Bool, true, false}
 use mathlib.Core.List.{List, [], _∷_}
-use Prim.Native.Nat.{ℕ, suc, _+_, _*_, _-_, _^_, _≤_, _<_}
+use Prim.Native.Nat.{ℕ, _*_, _-_, _^_, _≤_, _<_}
 use native.Mathlib.Omega.{arith}
 use native.Mathlib.Decide.{decLe}
-use native.Mathlib.Nat.{mul-le-mul, mul-le-mul-right}
+use native.Mathlib.Nat.{mul-le-mul}
 use lib.Dec.{ltb}
 use lib.ListN.{length}
-use lib.Pow.{pow-pos}
 use borrow.Author.Tests.{ltb-false, le-leb, lt-leb}
 use Rattle.laws.specs.Basic.{sum, lowest}
-use Rattle.laws.specs.Extremes.{largest-passes, largest-le, largest-is}
+use Rattle.laws.specs.Extremes.{largest-passes, largest-le}
 use Rattle.rules.specs.Tree.{Net, stages, isPlan}
 use Rattle.rules.specs.Timing.{meets, cost}
 use Rattle.rules.specs.Grain.{maxExponent, roundedCost, meetingPlans, leastRounded, qualifies, grainExponent}
@@ -20,9 +19,9 @@ use Rattle.facts.specs.Accepted.{Accepted}
 use Rattle.facts.specs.Stages.{stages-some}
 use Rattle.facts.specs.Costs.{small}
 use Rattle.oracle.specs.Stages.{planCosts}
-use Rattle.oracle.specs.Value.{MeetingPlan, exponent, value-halved, value-doubled, value-mono, value-zero, value-exponent, floor-below}
+use Rattle.oracle.specs.Value.{MeetingPlan, value-zero, floor-below}
 use Rattle.demands.specs.StageNumbers.{treeOf}
-use Rattle.demands.specs.Same.{cost-same, value-same, passes-same, exponent-same}
+use Rattle.demands.specs.Same.{cost-same, value-same}
 use Rattle.demands.specs.Plans.{meeting, meeting-is, some-meeting}
 
 -- These hold of every net.
@@ -48,12 +47,6 @@ pub grain-most : (n : Net) (p q : ℕ) → grainExponent n p q ≤ maxExponent
 unfolding grainExponent
 grain-most n p q = largest-le (qualifies n p q) maxExponent
 
--- Demand 2, k: the first that qualifies, from 28 down, is the grain's.
-pub grain-found : (n : Net) (p q k : ℕ) → k ≤ maxExponent → qualifies n p q k ≡ true → ((j : ℕ) → k < j → j ≤ maxExponent → qualifies n p q j ≡ false)
-    → grainExponent n p q ≡ k
-unfolding grainExponent
-grain-found n p q k = largest-is (qualifies n p q) maxExponent k
-
 module _ {n : Net} (A : Accepted n) where
   -- What holds where a plan meets timing, and where V(k) is 0 for every k, holds.
   pub either : {P : Type 0} → ((x : List ℕ) → MeetingPlan (treeOf n) x → P) → (((k : ℕ) → leastRounded n k ≡ 0) → P) → P
@@ -62,17 +55,6 @@ module _ {n : Net} (A : Accepted n) where
       go : (b : Bool) → ltb 0 (length (meetingPlans n)) ≡ b → P
       go true e = let (x, M) = some-meeting A e in some x M
       go false e = none (least-none n e)
-
-  -- 2 V(k + 1) ≤ V(k) ≤ 2 V(k + 1) + s. Refusal 12: so many columns does the search at k need, once it has V(k + 1).
-  pub least-halved : (k : ℕ) → 2 * leastRounded n (suc k) ≤ leastRounded n k
-  least-halved k = either (λ x M. omega (arith, value-halved (treeOf n) k x M, value-same A k, value-same A (suc k))) (λ z. omega (arith, z (suc k)))
-
-  pub least-doubled : (k : ℕ) → leastRounded n k ≤ 2 * leastRounded n (suc k) + stages n
-  least-doubled k = either (λ x M. omega (arith, value-doubled (treeOf n) k x M, value-same A k, value-same A (suc k))) (λ z. omega (arith, z k))
-
-  -- Refusal 12: V never rises with k.
-  pub least-mono : (j k : ℕ) → j ≤ k → leastRounded n k ≤ leastRounded n j
-  least-mono j k h = either (λ x M. omega (arith, value-mono (treeOf n) j k h x M, value-same A j, value-same A k)) (λ z. omega (arith, z k))
 
   -- No plan costs as much as 2^28, by the tree of stages either.
   pub small-costs : (x : List ℕ) → sum (planCosts (treeOf n) x) < 2 ^ maxExponent
@@ -92,9 +74,6 @@ module _ {n : Net} (A : Accepted n) where
       (λ x M. let (p, m) = meeting-is A x M in omega (arith, grain-below k x p m, small A x))
       (λ z. rw (z k) (omega arith))
 
-  pub least-small : (k : ℕ) → leastRounded n k < 2 ^ maxExponent
-  least-small k = omega (arith, grain-small k, mul-le-mul-right (leastRounded n k) (pow-pos k))
-
   -- Demand 2, k: 28 never qualifies, so the grain's k is at most 27.
   pub top-fails : (p q : ℕ) → 1 ≤ q → qualifies n p q maxExponent ≡ false
   unfolding qualifies
@@ -111,10 +90,3 @@ module _ {n : Net} (A : Accepted n) where
           let z : _≡_ {A = ℕ} 0 1 = cc (grain-qualifies n p q, top-fails p q h) in
           absurd (omega arith)
       go (no a) = omega arith
-
-  -- Refusal 12: where none above k qualifies, V(k) is at most V at the grain's k.
-  pub least-grain : (p q k : ℕ) → ((j : ℕ) → k < j → j ≤ maxExponent → qualifies n p q j ≡ false) → leastRounded n k ≤ leastRounded n (grainExponent n p q)
-  least-grain p q k none = either
-      (λ x M. rw (← exponent-same A p q, ← value-same A k, ← value-same A (exponent (treeOf n) p q))
-      (value-exponent (treeOf n) p q k (λ j a b. passes-same A p q j ∙ none j a b) x M))
-      (λ z. omega (arith, z k))

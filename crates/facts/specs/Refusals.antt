@@ -7,7 +7,7 @@ use native.Mathlib.Omega.{arith}
 use lib.Dec.{leb}
 use lib.ListN.{length}
 use Rattle.laws.specs.Basic.{all}
-use Rattle.rules.specs.Tree.{Node, Net}
+use Rattle.rules.specs.Tree.{Node}
 use Rattle.rules.specs.Bytes.{Field, maxNodes, fieldAt, next, dueLayers, dueDriver, dueNode, layersAt, isLayer, driverAt, isDriver, nodeAt, isNode}
 use Rattle.rules.specs.Reading.{Answer, accept, refuse, _>>=_, _>>_, _unless_, field, hasRoom, isParent, nodeField, nodesFrom, isWhole, read}
 use Rattle.facts.specs.Answers.{not-refused, refuse-injective}

@@ -7,7 +7,7 @@ use native.Mathlib.Omega.{arith}
 use lib.ListN.{length, getD, set, length-set}
 use lib.Seq.{getD-set-same, getD-set-other}
 use Rattle.laws.specs.Booleans.{same-or}
-use Rattle.fanout.specs.Contracts.{NextDriven, LinkIn, Unlinked, Linked}
+use Rattle.fanout.specs.Contracts.{NextOwned, LinkIn, Unlinked, Linked}
 
 -- Nothing belongs to any: one number after the other.
 pub unlinked-start : {before : List ℕ} {count : ℕ} → Unlinked before before count 0
@@ -27,7 +27,7 @@ module _ {before first : List ℕ} {count n : ℕ} (U : Unlinked before first co
 -- `unlink` leaves room for the links.
 pub still-room : {owner before next first : List ℕ} {count : ℕ} → LinkIn owner before next count → Unlinked before first count count
     → LinkIn owner first next count
-still-room I U = record { drivers = I .drivers; firsts = omega (arith, I .firsts, U .long); nexts = I .nexts; lower = I .lower }
+still-room I U = record { owners = I .owners; firsts = omega (arith, I .firsts, U .long); nexts = I .nexts; lower = I .lower }
 
 -- Those from j on are linked: `first` has for each number the first of them that belongs to it. Number 0, which belongs to none, is left out.
 pub record Linking (owner first₀ next₀ : List ℕ) (count : ℕ) (first next : List ℕ) (j : ℕ) : Type 0 where
@@ -35,8 +35,8 @@ pub record Linking (owner first₀ next₀ : List ℕ) (count : ℕ) (first next
   pub most : j ≤ count
   pub first-long : length first ≡ length first₀
   pub next-long : length next ≡ length next₀
-  pub first-is : (i : ℕ) → i < count → NextDriven owner count i j (getD first i 0)
-  pub next-is : (m : ℕ) → 0 < m → j ≤ m → m < count → NextDriven owner count (getD owner m 0) (suc m) (getD next m 0)
+  pub first-is : (i : ℕ) → i < count → NextOwned owner count i j (getD first i 0)
+  pub next-is : (m : ℕ) → 0 < m → j ≤ m → m < count → NextOwned owner count (getD owner m 0) (suc m) (getD next m 0)
 
 pub linking-start : {owner before first next : List ℕ} {count : ℕ} → Unlinked before first count count → Linking owner first next count first next count
 linking-start {count = count} U = record {
@@ -44,7 +44,7 @@ linking-start {count = count} U = record {
   most = omega arith;
   first-long = refl;
   next-long = refl;
-  first-is = λ i h. rw (U .none i h) (record { low = omega arith; most = omega arith; driven = λ k. absurd (omega arith); passed = λ m a b e. omega arith });
+  first-is = λ i h. rw (U .none i h) (record { low = omega arith; most = omega arith; owned = λ k. absurd (omega arith); passed = λ m a b e. omega arith });
   next-is = λ m p a b. absurd (omega arith);
 }
 
@@ -72,17 +72,17 @@ module _ {owner first₀ next₀ : List ℕ} {count : ℕ} {first next : List �
       d : ℕ
       d = getD owner (j - 1) 0
 
-      first-of : (i : ℕ) → i < count → (i ≡ d) ⊎ (i ≡ d → ⊥) → NextDriven owner count i (j - 1) (getD (set first d (j - 1)) i 0)
+      first-of : (i : ℕ) → i < count → (i ≡ d) ⊎ (i ≡ d → ⊥) → NextOwned owner count i (j - 1) (getD (set first d (j - 1)) i 0)
       first-of i a (inl e) = rw (e, getD-set-same first d (j - 1) 0 (omega (arith, L .first-long, I .firsts))) (record {
         low = omega arith;
         most = omega (arith, L .most);
-        driven = λ k. refl;
+        owned = λ k. refl;
         passed = λ m p q. absurd (omega arith);
       })
       first-of i a (inr ne) = let N = L .first-is i a in rw (getD-set-other first d i (j - 1) 0 ne) (record {
         low = omega (arith, N .low);
         most = N .most;
-        driven = N .driven;
+        owned = N .owned;
         passed = λ m p q e. passed m p q e (same-or (j - 1) m);
       })
         where
@@ -91,11 +91,11 @@ module _ {owner first₀ next₀ : List ℕ} {count : ℕ} {first next : List �
           passed m p q e (inr n) = L .first-is i a .passed m (omega arith) q e
 
       next-of : (m : ℕ) → 0 < m → j - 1 ≤ m → m < count → (m ≡ j - 1) ⊎ (m ≡ j - 1 → ⊥)
-          → NextDriven owner count (getD owner m 0) (suc m) (getD (set next (j - 1) (getD first d 0)) m 0)
+          → NextOwned owner count (getD owner m 0) (suc m) (getD (set next (j - 1) (getD first d 0)) m 0)
       next-of m p a b (inl e) =
           let s : j ≡ suc (j - 1) = omega arith in
           rw (e, getD-set-same next (j - 1) (getD first d 0) 0 (omega (arith, L .next-long, I .nexts, L .most)))
-          (subst (λ k. NextDriven owner count d k (getD first d 0)) s (L .first-is d (omega (arith, owner-before h, L .most))))
+          (subst (λ k. NextOwned owner count d k (getD first d 0)) s (L .first-is d (omega (arith, owner-before h, L .most))))
       next-of m p a b (inr n) = rw (getD-set-other next (j - 1) m (getD first d 0) 0 n) (L .next-is m p (omega arith) b)
 
   -- A owner has a lower number, so a stage drives none of the count up to itself.
@@ -107,16 +107,16 @@ module _ {owner first₀ next₀ : List ℕ} {count : ℕ} {first next : List �
     next-is = λ m p b. L .next-is m p (omega arith) b;
   }
     where
-      above : (i r : ℕ) → i < count → 0 < j → NextDriven owner count i j r → (r ≡ count) ⊎ (r ≡ count → ⊥) → i < r
+      above : (i r : ℕ) → i < count → 0 < j → NextOwned owner count i j r → (r ≡ count) ⊎ (r ≡ count → ⊥) → i < r
       above i r a s N (inl e) = omega arith
       above i r a s N (inr ne) =
           let inside : r < count = omega (arith, N .most) in
-          omega (arith, N .driven inside, I .lower r (omega (arith, N .low)) inside)
+          omega (arith, N .owned inside, I .lower r (omega (arith, N .low)) inside)
 
-      from-next : (i : ℕ) → i < count → 0 < j → NextDriven owner count i (suc i) (getD first i 0)
+      from-next : (i : ℕ) → i < count → 0 < j → NextOwned owner count i (suc i) (getD first i 0)
       from-next i a s = let N = L .first-is i a in record {
         low = above i (getD first i 0) a s N (same-or count (getD first i 0));
         most = N .most;
-        driven = N .driven;
+        owned = N .owned;
         passed = λ m p q. N .passed m (omega arith) q;
       }

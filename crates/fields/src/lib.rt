@@ -1,11 +1,14 @@
-// Numbers, times, fields and ranges in net bytes (01, Net bytes and Reading): the leaves of the reader.
+// Numbers, times, fields and ranges in net bytes (01, Net bytes and Reading), the leaves of the reader; and the range of a share (01, Planning).
 use rules::Kind;
 ghost use mathlib.Core.Path.{_≡_};
+ghost use mathlib.Core.Bool.{_&&_};
 ghost use Prim.Native.Nat.{_+_, _*_, _≤_};
+ghost use lib.Dec.{leb};
 ghost use lib.ListN.{length};
 ghost use Rattle.laws.specs.Basic.{within};
 ghost use Rattle.rules.specs.Bytes.{maxLayers, number, signed, kindSize, isTime, isKind};
 ghost use Rattle.rules.specs.Reading.{field};
+ghost use Rattle.rules.specs.Planning.{maxShare};
 ghost use Rattle.fields.specs.Fields.{dueOf, foundField, foundRefusal};
 
 // The number in the `width` bytes from `at` on, at most four of them, most significant first.
@@ -179,4 +182,14 @@ pub fn kind_in_range(kind: Kind) -> bool
             time_in_range(required)
         }
     }
+}
+
+// Whether a share p/q is in its range (refusal 9).
+pub fn share_in_range(p: u64, q: u64) -> bool
+    ensures { λ r. ⌜ r ≡ leb p maxShare && within 1 maxShare q ⌝ }
+{
+    if rules::MAX_SHARE < p {
+        return false;
+    }
+    within(q, 1, rules::MAX_SHARE)
 }

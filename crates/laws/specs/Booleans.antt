@@ -2,7 +2,7 @@
 use mathlib.Core.Path.{_≡_, refl, sym}
 use mathlib.Core.Bool.{Bool, true, false, _&&_, _||_}
 use mathlib.Core.Logic.{_⊎_, inl, inr}
-use Prim.Native.Nat.{ℕ, _≤_, _<_, _+_, suc, min}
+use Prim.Native.Nat.{ℕ, _≤_, _+_, suc}
 use native.Mathlib.Omega.{arith}
 use native.Mathlib.Nat.{lt-of-not-le, not-le-of-lt}
 use lib.Dec.{leb, eqb, ltb}
@@ -47,14 +47,6 @@ pub bit-le : (b : Bool) → bit b ≤ 1
 bit-le true = omega arith
 bit-le false = omega arith
 
-pub bit-one : (b : Bool) {x : ℕ} → x ≡ bit b → x ≡ 1 → b ≡ true
-bit-one true e h = refl
-bit-one false e h = let z : _≡_ {A = ℕ} 0 1 = cc in absurd (omega arith)
-
-pub bit-zero : (b : Bool) {x : ℕ} → x ≡ bit b → (x ≡ 1 → ⊥) → b ≡ false
-bit-zero true e h = absurd (h e)
-bit-zero false e h = refl
-
 -- Tests that are made together all pass.
 pub and-both : (a b : Bool) → a && b ≡ true → (a ≡ true) × (b ≡ true)
 and-both a b e = (and-left a b e, and-right a b e)
@@ -75,12 +67,3 @@ if-lt-suc p m x = go (ltb p m) (eqb p m) refl refl
     go true false e f = rw (lt-ltb p (suc m) (omega (arith, ltb-true p m e))) (omega arith)
     go false true e f = rw (lt-ltb p (suc m) (omega (arith, eqb-true p m f))) (omega arith)
     go false false e f = let ne = eqb-false p m f in rw (le-ltb p (suc m) (omega (arith, ltb-false p m e))) (omega arith)
-
--- The lesser of two is within w just where one of the two is.
-pub leb-min : (a b w : ℕ) → leb (min a b) w ≡ leb a w || leb b w
-leb-min a b w = go (leb a w) (leb b w) refl refl
-  where
-    go : (t u : Bool) → leb a w ≡ t → leb b w ≡ u → leb (min a b) w ≡ leb a w || leb b w
-    go true u e f = rw (e, le-leb (min a b) w (omega (arith, leb-true a w e)))
-    go false true e f = rw (e, f, le-leb (min a b) w (omega (arith, leb-true b w f)))
-    go false false e f = rw (e, f, lt-leb (min a b) w (omega (arith, leb-false a w e, leb-false b w f)))

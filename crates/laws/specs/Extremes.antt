@@ -1,14 +1,14 @@
 -- The least and the latest value of a function over a list, and the largest number that passes a test.
-use mathlib.Core.Path.{_≡_, refl, ap, sym, _∙_}
+use mathlib.Core.Path.{_≡_, refl, ap, _∙_}
 use mathlib.Core.Bool.{Bool, true, false, cond, _||_}
 use mathlib.Core.Logic.{_⊎_, inl, inr}
 use mathlib.Core.List.{List, [], _∷_, List·Memᴰ, List·Memᴰ·head, List·Memᴰ·tail, List·Memᴰ·not-nil}
-use Prim.Native.Nat.{ℕ, zero, suc, _+_, _≤_, _<_, min}
+use Prim.Native.Nat.{ℕ, zero, suc, _+_, _≤_, _<_}
 use native.Mathlib.Omega.{arith}
 use native.Mathlib.Nat.{le-suc-iff}
 use native.Mathlib.Decide.{decLe}
 use Rattle.laws.specs.Basic.{if_then_else_, lowest1, lowest, largest}
-use lib.IntN.{ℤ, pos}
+use lib.IntN.{ℤ}
 use lib.Signed.{leZ}
 use Rattle.laws.specs.Lists.{Some}
 use Rattle.laws.specs.Integers.{le-true, le-false, true-le}
@@ -96,15 +96,6 @@ lowest-same {A = A} f g (x ∷ xs) h = one x xs h
 -- The later of two times.
 abbrev pub maxZ : ℤ → ℤ → ℤ
 maxZ a b = cond (leZ a b) b a
-
--- The latest value of f over the members of a list (0 for none).
-abbrev pub latest1 {ℓ} : {A : Type ℓ} → (A → ℤ) → A → List A → ℤ
-latest1 f x [] = f x
-latest1 f x (y ∷ ys) = maxZ (f x) (latest1 f y ys)
-
-abbrev pub latest {ℓ} : {A : Type ℓ} → (A → ℤ) → List A → ℤ
-latest f [] = pos 0
-latest f (x ∷ xs) = latest1 f x xs
 
 -- The later of two is no earlier than x just where one of the two is.
 pub le-maxZ : (x a b : ℤ) → leZ x (maxZ a b) ≡ leZ x a || leZ x b

@@ -1,10 +1,10 @@
 -- Integers (times) as differences of two numbers, so that omega decides what is linear in them; their order, their least.
 use mathlib.Core.Path.{_≡_, refl, ap, sym, _∙_}
-use mathlib.Core.Bool.{Bool, true, false, not, cond, _&&_, and-true}
-use mathlib.Core.List.{List, [], _∷_, _++_, List·Memᴰ, List·Memᴰ·head, List·Memᴰ·tail, List·Memᴰ·not-nil}
-use Prim.Native.Nat.{ℕ, zero, suc, _+_, _-_, _≤_, _<_, min, _^_}
+use mathlib.Core.Bool.{Bool, true, false, cond, _&&_, and-true}
+use mathlib.Core.List.{List, [], _∷_, List·Memᴰ, List·Memᴰ·head, List·Memᴰ·tail}
+use Prim.Native.Nat.{ℕ, zero, suc, _+_, _≤_, _<_, min, _^_}
 use native.Mathlib.Omega.{arith}
-use lib.Dec.{leb, ltb}
+use lib.Dec.{ltb}
 use lib.IntN.{ℤ, pos, negsuc, subℕ, _+ℤ_, _-ℤ_, negℤ}
 use lib.Signed.{leZ, ltZ}
 use borrow.Author.Tests.{leb-true, leb-false, ltb-true, ltb-false, le-leb, lt-leb}
@@ -164,8 +164,8 @@ least-mem (x ∷ xs) s = go x xs
         pick false m = List·Memᴰ·tail m
 
 -- A member that is no later than any other is the least.
-pub least-is : (r : ℤ) (xs : List ℤ) → List·Memᴰ r xs → ((q : ℤ) → List·Memᴰ q xs → leZ r q ≡ true) → leastOf xs ≡ r
-least-is r xs m h =
+pub leastOf-is : (r : ℤ) (xs : List ℤ) → List·Memᴰ r xs → ((q : ℤ) → List·Memᴰ q xs → leZ r q ≡ true) → leastOf xs ≡ r
+leastOf-is r xs m h =
     let a = le-true r (leastOf xs) (h (leastOf xs) (least-mem xs (some-mem xs m))) in
     same-view (leastOf xs) r (omega (arith, le-true (leastOf xs) r (least-le xs m)))
   where

@@ -82,10 +82,6 @@ pub sum-append : (xs ys : List ℕ) → sum (xs ++ ys) ≡ sum xs + sum ys
 sum-append [] ys = omega arith
 sum-append (x ∷ xs) ys = omega (arith, sum-append xs ys)
 
-pub sum-times {ℓ} : {A : Type ℓ} (a : ℕ) (f : A → ℕ) (xs : List A) → sum (map (λ x. a * f x) xs) ≡ a * sum (map f xs)
-sum-times a f [] = omega arith
-sum-times a f (x ∷ xs) = omega (arith, sum-times a f xs)
-
 -- A sum is held against w, which is at most hi: then members above hi may count as hi + 1 (a column that is not there).
 pub capped-sum {ℓ} : {A : Type ℓ} (hi c w : ℕ) (f : A → ℕ) (xs : List A) → w ≤ hi
     → leb (c + sum (map (λ x. min (f x) (suc hi)) xs)) w ≡ leb (c + sum (map f xs)) w

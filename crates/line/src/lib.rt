@@ -1,5 +1,5 @@
-// The line that the program prints (01, Program), written into a buffer: its bytes are those of the definition, and the bytes after it keep their
-// values. Both lines also promise `Counts`, so that a caller may lend `&out[..n]` with no proof of its own.
+// The lines that the programs print (01, Program; the counts of 01, Reading), written into a buffer: their bytes are those of the definitions, and the
+// bytes after them keep their values. Each also promises `Counts`, so that a caller may lend `&out[..n]` with no proof of its own.
 use text::put;
 use text::put_field;
 use text::put_time;
@@ -12,9 +12,10 @@ ghost use Rattle.rules.specs.Bytes.{maxStages};
 ghost use Rattle.rules.specs.Program.{layerNumbers, planLine, refusedLine};
 ghost use Rattle.text.specs.Placing.{Placed};
 ghost use Rattle.line.specs.Length.{maxLine};
+ghost use Rattle.line.specs.Counted.{countsLine};
 
 // Puts the layers at `at` in stage order, a space before each, and answers where they end.
-fn put_layers(plan: &[u8], out: &mut [u8], at: usize) -> usize
+fn put_plan(plan: &[u8], out: &mut [u8], at: usize) -> usize
     requires { ⌜ at + 4 * length (now plan) ≤ length (now out) ⌝ }
     ensures { λ r. ⌜ Placed (layerNumbers (now (plan .entry))) at (now (out .entry)) (now (out .exit)) r ⌝ }
     ensures { λ r. ⌜ r ≤ at + 4 * length (now (plan .entry)) ⌝ }
@@ -40,7 +41,7 @@ pub fn plan_line(cost: u64, g: u64, slack: i64, plan: &[u8], out: &mut [u8]) -> 
     at = put(b" slack ", out, at);
     at = put_time(slack, out, at);
     at = put(b" plan", out, at);
-    at = put_layers(plan, out, at);
+    at = put_plan(plan, out, at);
     put(b"\n", out, at)
 }
 
@@ -52,5 +53,18 @@ pub fn refused_line(r: u8, out: &mut [u8]) -> usize
     ensures { λ n. ⌜ Counts n (now (out .exit)) ⌝ }
 {
     let at = put_field(b"refused ", r as u64, out, 0);
+    put(b"\n", out, at)
+}
+
+// Writes the line of the counts of a net at the front of `out`. Answers its length.
+pub fn counts_line(nodes: u64, stages: u64, layers: u64, out: &mut [u8]) -> usize
+    requires { ⌜ maxLine ≤ length (now out) ⌝ }
+    ensures { λ r. ⌜ r ≡ length (countsLine nodes stages layers) ⌝ }
+    ensures { λ r. ⌜ now (out .exit) ≡ countsLine nodes stages layers ++ drop r (now (out .entry)) ⌝ }
+    ensures { λ r. ⌜ Counts r (now (out .exit)) ⌝ }
+{
+    let mut at = put_field(b"nodes ", nodes, out, 0);
+    at = put_field(b" stages ", stages, out, at);
+    at = put_field(b" layers ", layers, out, at);
     put(b"\n", out, at)
 }

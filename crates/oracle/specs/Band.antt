@@ -4,19 +4,21 @@
 -- (source 001, section 4.2.2), the best of the layers at their costs, and leaving columns out in front and behind.
 use mathlib.Core.Path.{_≡_, refl, ap, sym, _∙_}
 use mathlib.Core.Bool.{Bool, true, false, _&&_, _||_}
-use mathlib.Core.Logic.{_⊎_, inl, inr}
-use Prim.Native.Nat.{ℕ, zero, suc, _+_, _-_, _≤_, _<_, min}
+use mathlib.Core.Logic.{_⊎_, inl, inr, _↔_}
+use mathlib.Core.List.{List, [], _∷_}
+use Prim.Native.Nat.{ℕ, zero, suc, _+_, _*_, _-_, _≤_, _<_, min}
 use native.Mathlib.Omega.{arith}
 use native.Mathlib.Decide.{decLe}
 use lib.Dec.{leb}
 use lib.IntN.{ℤ, pos, _+ℤ_, _-ℤ_}
 use lib.Signed.{leZ}
 use borrow.Author.Tests.{leb-true, leb-false, le-leb, lt-leb}
-use Rattle.laws.specs.Basic.{if_then_else_, minZ}
+use Rattle.laws.specs.Basic.{if_then_else_, minZ, leastOf}
 use Rattle.laws.specs.Booleans.{both, leb-same}
-use Rattle.laws.specs.Integers.{le-true, le-false, false-le, adjoint, le-minZ, le-trans, min-right}
+use Rattle.laws.specs.Integers.{le-true, le-false, false-le, adjoint, le-minZ, le-trans, min-right, allLe, le-leastZ}
 use Rattle.laws.specs.Extremes.{maxZ, le-maxZ}
-use Rattle.oracle.specs.Table.{advance, pointers, merge, pointers-sum}
+use Rattle.laws.specs.Lists.{Some}
+use Rattle.oracle.specs.Timing.{lateCount, none-late}
 
 -- The times that are asked, by a test; a row has columns up to hi at most.
 module _ (asked : ℤ → Bool) (hi : ℕ) where
@@ -71,6 +73,22 @@ module _ (asked : ℤ → Bool) (hi : ℕ) where
   limit-kept : (r : ℤ) (g : ℤ → ℕ) → LimitOn r g → (t : ℤ) → asked t ≡ true → g t ≤ hi → g t ≡ 0
   limit-kept r g L t q h = limit-free r g L t q (L (g t) h t q ∙ le-leb (g t) (g t) (omega arith))
 
+  -- The limit that several sinks set, the least of theirs: one that is late costs more than any budget.
+  pub limit-sinks : (rs : List ℤ) → Some rs → LimitOn (leastOf rs) (λ t. suc hi * lateCount rs t)
+  limit-sinks [] s = absurd s
+  limit-sinks (r ∷ rs) s = λ w h t q. le-leastZ t r rs ∙ go w h t (allLe t (r ∷ rs)) refl (none-late (r ∷ rs) t)
+    where
+      beyond : (w n : ℕ) → w ≤ hi → (n ≡ 0 → ⊥) → w < suc hi * n
+      beyond w zero h k = absurd (k refl)
+      beyond w (suc n) h k = omega arith
+
+      go : (w : ℕ) → w ≤ hi → (t : ℤ) (b : Bool) → allLe t (r ∷ rs) ≡ b → (lateCount (r ∷ rs) t ≡ 0) ↔ (allLe t (r ∷ rs) ≡ true)
+          → allLe t (r ∷ rs) ≡ leb (suc hi * lateCount (r ∷ rs) t) w
+      go w h t true e k = let z = k .1 e in e ∙ sym (le-leb (suc hi * lateCount (r ∷ rs) t) w (rw z (omega arith)))
+      go w h t false e k =
+          let some-late : lateCount (r ∷ rs) t ≡ 0 → ⊥ = λ z. let a = k .0 z in let y : _≡_ {A = ℕ} 0 1 = cc in omega arith in
+          e ∙ sym (lt-leb (suc hi * lateCount (r ∷ rs) t) w (beyond w (lateCount (r ∷ rs) t) h some-late))
+
   -- A leaf: one column.
   pub band-leaf : (r : ℤ) (g : ℤ → ℕ) → LimitOn r g → Band (λ w. r) 0 1 g
   band-leaf r g L = record {
@@ -119,6 +137,30 @@ band-less asked hi less h A s e f D = record {
   rest = λ t q k. omega (arith, D .rest t q (omega arith));
   inside = λ w a b. D .inside w (omega arith) (omega arith);
 }
+
+-- Two pointers: the one with the lesser entry steps.
+abbrev pub advance : Bool → ℕ × ℕ → ℕ × ℕ
+advance true p = (suc (p .0), p .1)
+advance false p = (p .0, suc (p .1))
+
+-- Where they stand after w steps from the front of two rows.
+unfoldable pub pointers : (A B : ℕ → ℤ) → ℕ → ℕ × ℕ
+pointers A B zero = (0, 0)
+pointers A B (suc w) = let p = pointers A B w in advance (leZ (A (p .0)) (B (p .1))) p
+
+-- Two rows merged: the lesser of the entries at which the pointers stand (source 001, section 4.2.2 and Lemma 2).
+abbrev pub merge : (ℕ → ℤ) → (ℕ → ℤ) → ℕ → ℤ
+merge A B w = minZ (A (pointers A B w .0)) (B (pointers A B w .1))
+
+-- The two pointers stand at w together.
+pointers-sum : (A B : ℕ → ℤ) (w : ℕ) → pointers A B w .0 + pointers A B w .1 ≡ w
+unfolding pointers
+pointers-sum A B zero = refl
+pointers-sum A B (suc w) = go (leZ (A (pointers A B w .0)) (B (pointers A B w .1))) (pointers A B w) (pointers-sum A B w)
+  where
+    go : (b : Bool) (p : ℕ × ℕ) → p .0 + p .1 ≡ w → advance b p .0 + advance b p .1 ≡ suc w
+    go true p e = omega arith
+    go false p e = omega arith
 
 -- A row from column s on.
 abbrev pub fromColumn : ℕ → (ℕ → ℤ) → ℕ → ℤ

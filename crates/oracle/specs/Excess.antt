@@ -1,9 +1,8 @@
 -- Each stage's least rounded cost taken off beforehand: a tree whose stages cost only what they spend above it. Every plan is charged the same amount
 -- less, so the same plans are least, and the columns of the table count only what is spent above the least.
 use mathlib.Core.Path.{_≡_, refl, ap, sym, _∙_}
-use mathlib.Core.Bool.{Bool, _&&_}
 use mathlib.Core.List.{List, map, List·Memᴰ}
-use Prim.Native.Nat.{ℕ, zero, suc, _+_, _*_, _-_, _/_, _^_, _≤_, _<_}
+use Prim.Native.Nat.{ℕ, zero, suc, _+_, _-_, _/_, _^_, _≤_, _<_}
 use native.Mathlib.Omega.{arith}
 use native.Mathlib.Nat.{div-one, div-le-self}
 use lib.Dec.{eqb}
@@ -11,7 +10,7 @@ use lib.ListN.{length}
 use lib.IntN.{pos, _-ℤ_}
 use lib.Signed.{leZ}
 use borrow.Author.Tests.{eqb-true, eq-eqb}
-use Rattle.laws.specs.Basic.{from, sum, lowest, leastOf}
+use Rattle.laws.specs.Basic.{from, sum, lowest}
 use Rattle.laws.specs.Booleans.{both}
 use Rattle.laws.specs.Extremes.{lowest-le}
 use Rattle.laws.specs.Lists.{map-same, mem-from, find-keep, find-cong}
@@ -24,12 +23,12 @@ use Rattle.oracle.specs.Value.{planRounded, value, isBest, firstPlan, Me
 
 module _ (T : StageTree) (k : ℕ) where
   -- The least rounded cost of stage i over the layers, ..
-  abbrev pub leastRounded : ℕ → ℕ
-  leastRounded i = lowest (λ l. T .cost i l / 2 ^ k) (from 0 (T .layers))
+  abbrev pub stageLeast : ℕ → ℕ
+  stageLeast i = lowest (λ l. T .cost i l / 2 ^ k) (from 0 (T .layers))
 
   -- .. and of all stages together: no plan has a lower rounded cost.
   abbrev pub base : ℕ
-  base = sum (map leastRounded (from 0 (T .stages)))
+  base = sum (map stageLeast (from 0 (T .stages)))
 
   -- The tree in which a stage costs what its layer's rounded cost is above its least.
   abbrev pub excess : StageTree
@@ -39,7 +38,7 @@ module _ (T : StageTree) (k : ℕ) where
     driver = T .driver;
     delay = T .delay;
     limits = T .limits;
-    cost = λ i l. T .cost i l / 2 ^ k - leastRounded i;
+    cost = λ i l. T .cost i l / 2 ^ k - stageLeast i;
     arrival = T .arrival;
   }
 
@@ -58,23 +57,23 @@ module _ (T : StageTree) (k : ℕ) where
       map-same _ _ (drivenBy T i) (λ j m. ap (λ t. t -ℤ pos (T .delay j (on x i))) (required-same n x j)) in
       rw r
 
-  pub meets-same : (x : List ℕ) → meetsTiming excess x ≡ meetsTiming T x
+  pub meets-excess : (x : List ℕ) → meetsTiming excess x ≡ meetsTiming T x
   unfolding requiredTime
-  meets-same x = ap (leZ (T .arrival)) (required-same (T .stages) x 0)
+  meets-excess x = ap (leZ (T .arrival)) (required-same (T .stages) x 0)
 
   pub excess-plan : (x : List ℕ) → MeetingPlan T x → MeetingPlan excess x
-  excess-plan x M = record { plan = M .plan; meets = meets-same x ∙ M .meets }
+  excess-plan x M = record { plan = M .plan; meets = meets-excess x ∙ M .meets }
 
   plan-excess : (x : List ℕ) → MeetingPlan excess x → MeetingPlan T x
-  plan-excess x M = record { plan = M .plan; meets = sym (meets-same x) ∙ M .meets }
+  plan-excess x M = record { plan = M .plan; meets = sym (meets-excess x) ∙ M .meets }
 
   -- What one stage costs, in two parts.
-  stage-split : (i l : ℕ) → l < T .layers → T .cost i l / 2 ^ k ≡ leastRounded i + excess .cost i l
+  stage-split : (i l : ℕ) → l < T .layers → T .cost i l / 2 ^ k ≡ stageLeast i + excess .cost i l
   stage-split i l h = omega (arith, lowest-le (λ l. T .cost i l / 2 ^ k) (from 0 (T .layers)) (mem-from 0 (T .layers) l (omega arith) (omega arith)))
 
   split-from : (x : List ℕ) → EachBelow (T .layers) x → (i n : ℕ) → i + n ≤ length x
       → rounded (2 ^ k) (map (λ i. T .cost i (on x i)) (from i n))
-      ≡ sum (map leastRounded (from i n)) + rounded (2 ^ 0) (map (λ i. excess .cost i (on x i)) (from i n))
+      ≡ sum (map stageLeast (from i n)) + rounded (2 ^ 0) (map (λ i. excess .cost i (on x i)) (from i n))
   split-from x u i zero h = refl
   split-from x u i (suc n) h =
       omega (arith, stage-split i (on x i) (each-at (T .layers) x i u (omega arith)), div-one (excess .cost i (on x i)), split-from x u (suc i) n (omega arith))
@@ -105,11 +104,11 @@ module _ (T : StageTree) (k : ℕ) where
         both (eqb (planRounded excess 0 y) (value excess 0)) (eqb (planRounded T k y) (value T k))
         (λ t. eq-eqb (planRounded T k y) (value T k) (omega (arith, eqb-true (planRounded excess 0 y) (value excess 0) t)))
         (λ t. eq-eqb (planRounded excess 0 y) (value excess 0) (omega (arith, eqb-true (planRounded T k y) (value T k) t))) in
-        rw (meets-same y, e)
+        rw (meets-excess y, e)
 
     -- .. and the plan that 01 chooses is the same.
-    pub first-same : firstPlan excess 0 ≡ firstPlan T k
-    first-same =
+    pub first-excess : firstPlan excess 0 ≡ firstPlan T k
+    first-excess =
         find-keep (isBest excess 0) (treePlans T)
         ∙ find-cong (isBest excess 0) (isBest T k) (treePlans T) best-same
         ∙ sym (find-keep (isBest T k) (treePlans T))

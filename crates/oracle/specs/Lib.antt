@@ -6,8 +6,6 @@ pub mod Timing
 pub mod Value
 pub mod Excess
 pub mod ReadOff
-pub mod Rows
-pub mod Table
 pub mod Result
 pub mod Band
 pub mod Windows

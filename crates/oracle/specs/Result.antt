@@ -9,12 +9,8 @@ use native.Mathlib.Omega.{arith}
 use native.Mathlib.Decide.{decLe}
 use lib.Dec.{leb, eqb}
 use lib.ListN.{length}
-use lib.IntN.{ℤ}
-use lib.Signed.{leZ}
 use borrow.Author.Tests.{leb-true, leb-false, eq-eqb, ne-eqb}
 use Rattle.laws.specs.Basic.{sum}
-use Rattle.laws.specs.Booleans.{leb-same}
-use Rattle.laws.specs.Integers.{le-self}
 use Rattle.laws.specs.Lists.{find, find-keep, find-cong}
 use Rattle.oracle.specs.Stages.{StageTree, WellFormed, treePlans, planCosts}
 use Rattle.oracle.specs.Plans.{mem-plans, plans-mem}
@@ -22,8 +18,6 @@ use Rattle.oracle.specs.Programme.{planCharge, leastCharge, leastCharge-
 use Rattle.oracle.specs.Timing.{meetsTiming, lateSinks, charge, leastAt, charge-split, on-time}
 use Rattle.oracle.specs.Value.{planRounded, value, exponent, isBest, firstPlan, MeetingPlan, value-le, value-at, first-meets, floor-below, near-floor}
 use Rattle.oracle.specs.ReadOff.{readOff, read-first}
-use Rattle.oracle.specs.Rows.{Dual, columnFrom, column-is}
-use Rattle.oracle.specs.Table.{row, table-dual}
 
 module _ (T : StageTree) (k hi : ℕ) where
   -- The least charge of the whole tree, reached at the arrival time.
@@ -118,37 +112,12 @@ module _ (T : StageTree) (k hi : ℕ) where
           ∙ ap (λ v. find (λ y. leb (treeCharge y) v) (treePlans T)) (sym e)
           ∙ read-first T (charge T k hi) W (T .stages) 0 (λ j. T .arrival) (omega arith)
 
-    -- What the row A of stage 0 says. It may be made in any way that leaves it dual to the least charges.
-    module _ (lo : ℤ) (from-lo : leZ lo (T .arrival) ≡ true) (A : ℕ → ℤ) (D : Dual lo hi A (leastAt T k hi 0)) where
-      -- If its last entry reaches the arrival time, some plan meets timing, with rounded cost at most hi.
-      pub row-plan : leZ (T .arrival) (A hi) ≡ true → (x : List ℕ) × MeetingPlan T x × (planRounded T k x ≤ hi)
-      row-plan e =
-          let h : treeLeast ≤ hi = leb-true treeLeast hi (sym (D hi (omega arith) (T .arrival) from-lo) ∙ e) in
-          let (x, M, f) = least-plan h in
-          (x, M, omega arith)
-
-      -- If some plan meets timing, the entries that reach the arrival time are those from column V(k) on. (The test is that the required time is no
-      -- earlier than the arrival time; a sentence in source 000 has it the other way round.)
-      pub entry-value : (x : List ℕ) → MeetingPlan T x → (w : ℕ) → w ≤ hi → leZ (T .arrival) (A w) ≡ leb (value T k) w
-      entry-value x M w h =
-          let c = least-capped x M in
-          D w h (T .arrival) from-lo ∙ leb-same treeLeast w (value T k) w (omega arith) (omega arith)
-
-      -- So V(k) is the first column that reaches the arrival time, if there is one.
-      pub first-column : (x : List ℕ) → MeetingPlan T x → columnFrom A (T .arrival) 0 (suc hi) ≡ min (value T k) (suc hi)
-      first-column x M = column-is lo hi A (leastAt T k hi 0) D (T .arrival) from-lo 0 (suc hi) (omega arith) (omega arith) ∙ least-capped x M
-
-    -- The same of the table as `Table` makes it.
-    pub table-value : (never : ℤ) → leZ (T .arrival) never ≡ false → (x : List ℕ) → MeetingPlan T x
-        → columnFrom (row T k never 0) (T .arrival) 0 (suc hi) ≡ min (value T k) (suc hi)
-    table-value never low = first-column (T .arrival) (le-self (T .arrival)) (row T k never 0) (table-dual T k hi W (T .arrival) never low 0 (W .some-stage))
-
 module _ (T : StageTree) (p q : ℕ) where
   -- The floor: the grain times V(k), at the k of the grain.
   abbrev pub floorOf : ℕ
   floorOf = 2 ^ exponent T p q * value T (exponent T p q)
 
   -- Demand 3: the floor is at most the cost of every plan that meets timing, and q times the cost of the chosen plan is at most (q + p) times the floor.
-  pub near-cheapest : (x : List ℕ) → firstPlan T (exponent T p q) ≡ some x
+  pub floor-bounds : (x : List ℕ) → firstPlan T (exponent T p q) ≡ some x
       → ((y : List ℕ) → MeetingPlan T y → floorOf ≤ sum (planCosts T y)) × (q * sum (planCosts T x) ≤ (q + p) * floorOf)
-  near-cheapest x e = (floor-below T (exponent T p q), near-floor T p q x (first-meets T (exponent T p q) x e .1))
+  floor-bounds x e = (floor-below T (exponent T p q), near-floor T p q x (first-meets T (exponent T p q) x e .1))

@@ -26,36 +26,36 @@ use Rattle.words.specs.Held.{Held, held-accepted}
 use Rattle.tree.specs.Plans.{Fitting, fitting}
 use Rattle.demands.specs.StageNumbers.{treeOf}
 use Rattle.demands.specs.Call.{share-in, all-late, all-pass, plan-accepted}
-use Rattle.readoff.specs.Laid.{Laid}
+use Rattle.slices.specs.Laid.{Laid}
 use Rattle.rounds.specs.Problem.{Problem}
 use Rattle.search.specs.Planned.{IsLate, IsShort, IsFound}
-use Rattle.planning.specs.Outcomes.{problem-of, late, short, served, Served, TooShort, floor-is}
+use Rattle.planning.specs.Outcomes.{problem-of, none-meets, too-short, served, Served, TooShort, floor-is}
 
--- a share in its range (refusal 9)
+-- A share in its range (refusal 9).
 pub record Share (p q : ℕ) : Type 0 where
   pub most : p ≤ maxShare
   pub some-part : 1 ≤ q
   pub parts : q ≤ maxShare
 
--- what is known past refusals 1 to 10: the array holds a net, the share is in its range, the plan buffer has room
+-- What is known past refusals 1 to 10: the array holds a net, the share is in its range, the plan buffer has room.
 pub record Admitted (w : List ℕ) (nodes layers s p q room : ℕ) : Type 0 where
   pub held : Held w nodes layers
   pub stages-are : s ≡ stages (netIn w)
   pub share : Share p q
   pub room-enough : s ≤ room
 
--- the search's problem, from the numbers of the net
+-- The search's problem, from the numbers of the net.
 pub problem-in : {w : List ℕ} {nodes layers s p q room : ℕ} → Admitted w nodes layers s p q room → {driver wire : List ℕ} {limit : List ℤ} {costs : List ℕ}
     → Laid (treeOf (netIn w)) driver wire limit costs → {a : ℤ} → a ≡ netIn w .driver .arrival
     → Problem (treeOf (netIn w)) driver wire limit costs s layers a p q
 problem-in G laid e =
     problem-of (held-accepted (G .held)) laid (G .stages-are) (G .held .layers-are) e (G .share .most) (G .share .some-part) (G .share .parts)
 
--- a refusal: the number and zeros
+-- A refusal: the number and zeros.
 abbrev pub refusedWith : ℕ → Planned
 refusedWith r = record { refusal = r; cost = 0; slack = pos 0; k = 0; floor = 0 }
 
--- the answer with what it leaves is that of 01, and its floor keeps the floor's promise
+-- The answer with what it leaves is that of 01, and its floor keeps the floor's promise.
 pub record PlansNet (bs : List ℕ) (p q : ℕ) (table tableAfter : List ℤ) (buffer bufferAfter : List ℕ) (r : Planned) : Type 0 where
   pub same : planAnswer r bufferAfter tableAfter ≡ plan bs p q table buffer
   pub floor-kept : FloorPromise bs p q r
@@ -66,21 +66,21 @@ share-passes {p} {q} S = share-in p q (S .most) (S .some-part) (S .parts)
 pub refused-floor : (bs : List ℕ) (p q r : ℕ) → 1 ≤ r → FloorPromise bs p q (refusedWith r)
 refused-floor bs p q r h = record { bounded = λ n e z. absurd (omega arith); zero-refused = λ z. refl }
 
--- what the search found, in an array's net
+-- What the search found, for the net in an array: the plan that 01 chooses.
 module _ {w : List ℕ} {nodes layers s p q : ℕ} (table : List ℤ) (buffer : List ℕ) (G : Admitted w nodes layers s p q (length buffer))
     {k g v : ℕ} {after : List ℤ} {bufferAfter : List ℕ} (I : IsFound (treeOf (netIn w)) p q s table after buffer bufferAfter k g v) where
-  pub found : Served (held-accepted (G .held)) p q (length table) k g v buffer bufferAfter
-  found = served (held-accepted (G .held)) (G .stages-are) I
+  pub served-net : Served (held-accepted (G .held)) p q (length table) k g v buffer bufferAfter
+  served-net = served (held-accepted (G .held)) (G .stages-are) I
 
-  pub plan-here : take s bufferAfter ≡ found .x
-  plan-here = ap (λ (i : ℕ). take i bufferAfter) (G .stages-are) ∙ found .taken-is
+  pub plan-here : take s bufferAfter ≡ served-net .x
+  plan-here = ap (λ (i : ℕ). take i bufferAfter) (G .stages-are) ∙ served-net .taken-is
 
-  -- what the plan buffer then opens with is a plan of the net
+  -- What the plan buffer then opens with is a plan of the net.
   pub plan-fits : Fitting (netIn w) (take s bufferAfter)
   unfolding isPlan
   plan-fits =
-      let e = and-right (eqb (length (found .x)) (stages (netIn w))) (areLayers (netIn w) (found .x)) (found .is-plan) in
-      rw plan-here (fitting (found .x) (found .sized) e)
+      let e = and-right (eqb (length (served-net .x)) (stages (netIn w))) (areLayers (netIn w) (served-net .x)) (served-net .is-plan) in
+      rw plan-here (fitting (served-net .x) (served-net .sized) e)
 
   pub slack-told : {j : Judged} → j ≡ record { refusal = 0; cost = cost (netIn w) (take s bufferAfter); slack = slack (netIn w) (take s bufferAfter) }
       → toZ w64 (ofZ w64 (j .slack)) ≡ slack (netIn w) (take s bufferAfter)
@@ -89,7 +89,7 @@ module _ {w : List ℕ} {nodes layers s p q : ℕ} (table : List ℤ) (buffer : 
       toZ-ofZ (fits-signed (slack (netIn w) (take s bufferAfter)) (slack-fits (held-accepted (G .held)) (take s bufferAfter)))
 
 module _ (bs : List ℕ) (p q : ℕ) (table : List ℤ) (buffer : List ℕ) where
-  -- a refusal other than 12 leaves buffer and table as they were
+  -- A refusal other than 12 leaves buffer and table as they were.
   pub plan-refused : {r : ℕ} → planned bs p q (length table) (length buffer) ≡ refuse r → eqb r 12 ≡ false
       → planAnswer (refusedWith r) buffer table ≡ plan bs p q table buffer
   unfolding plan
@@ -117,12 +117,12 @@ module _ (bs : List ℕ) (p q : ℕ) (table : List ℤ) (buffer : List ℕ) wher
     unfolding planned
     planned-12 S = simp (hold, share-passes (G .share), room-passes, S .some-meets, S .few)
 
-    -- the answers, by the outcome of the search
+    -- The answers, by the outcome of the search.
     pub late-answer : {after : List ℤ} {bufferAfter : List ℕ} → IsLate (treeOf n) p q s table after buffer bufferAfter
         → PlansNet bs p q table after buffer bufferAfter (refusedWith 11)
     late-answer I = record {
       same =
-          let e = all-late bs p q (length table) (length buffer) hold (share-passes (G .share)) room-passes (late (held-accepted (G .held)) I) in
+          let e = all-late bs p q (length table) (length buffer) hold (share-passes (G .share)) room-passes (none-meets (held-accepted (G .held)) I) in
           rw (I .table-kept, I .plan-kept) (plan-refused e refl);
       floor-kept = refused-floor bs p q 11 (omega arith);
     }
@@ -131,13 +131,13 @@ module _ (bs : List ℕ) (p q : ℕ) (table : List ℤ) (buffer : List ℕ) wher
         → PlansNet bs p q table after buffer bufferAfter (refusedWith 12)
     unfolding cleared
     short-answer I = record {
-      same = rw (I .cleared, I .plan-kept) (plan-short (planned-12 (short (held-accepted (G .held)) (G .stages-are) I)));
+      same = rw (I .cleared, I .plan-kept) (plan-short (planned-12 (too-short (held-accepted (G .held)) (G .stages-are) I)));
       floor-kept = refused-floor bs p q 12 (omega arith);
     }
 
     module _ {k g v : ℕ} {after : List ℤ} {bufferAfter : List ℕ} (I : IsFound (treeOf n) p q s table after buffer bufferAfter k g v) where
       abbrev pub F : Served (held-accepted (G .held)) p q (length table) k g v buffer bufferAfter
-      F = found table buffer G I
+      F = served-net table buffer G I
 
       pub found-answer : PlansNet bs p q table after buffer bufferAfter
           (record { refusal = 0; cost = cost n (F .x); slack = slack n (F .x); k = k; floor = g * v })
@@ -152,7 +152,7 @@ module _ (bs : List ℕ) (p q : ℕ) (table : List ℤ) (buffer : List ℕ) wher
         };
       }
 
-      -- the answer with the cost and slack that judging gives
+      -- The answer with the cost and slack that judging gives.
       pub found-judged : {c : ℕ} {t : ℤ} → c ≡ cost n (take s bufferAfter) → t ≡ slack n (take s bufferAfter)
           → PlansNet bs p q table after buffer bufferAfter (record { refusal = 0; cost = c; slack = t; k = k; floor = g * v })
       found-judged ec et = rw (ec ∙ ap (cost n) (plan-here table buffer G I), et ∙ ap (slack n) (plan-here table buffer G I)) found-answer

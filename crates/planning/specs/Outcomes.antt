@@ -13,7 +13,7 @@ use borrow.Author.Tests.{le-leb, lt-leb}
 use Rattle.rules.specs.Tree.{Net, stages, layerCount, isPlan}
 use Rattle.rules.specs.Timing.{cost}
 use Rattle.rules.specs.Grain.{maxExponent, meetingPlans, leastRounded, grainExponent, chosen, columns, columnsNeeded}
-use Rattle.rules.specs.Planning.{IsFloor}
+use Rattle.rules.specs.Planning.{maxShare, IsFloor}
 use Rattle.facts.specs.Accepted.{Accepted}
 use Rattle.oracle.specs.Value.{value, exponent, firstPlan, MeetingPlan}
 use Rattle.demands.specs.StageNumbers.{treeOf, well-formed}
@@ -22,13 +22,13 @@ use Rattle.demands.specs.Plans.{some-plan-iff, some-meeting, meeting, meeting-i
 use Rattle.demands.specs.Values.{small-costs, grain-small}
 use Rattle.demands.specs.Demand2.{chosen-is}
 use Rattle.demands.specs.Demand3.{chosen-floor}
-use Rattle.readoff.specs.Laid.{Laid}
+use Rattle.slices.specs.Laid.{Laid}
 use Rattle.rounds.specs.Problem.{Problem}
 use Rattle.search.specs.Planned.{IsLate, IsShort, IsFound}
 
--- the search's problem, from the numbers of the net
+-- The search's problem, from the numbers of the net.
 pub problem-of : {n : Net} → Accepted n → {driver wire : List ℕ} {limit : List ℤ} {costs : List ℕ} → Laid (treeOf n) driver wire limit costs
-    → {s l : ℕ} {a : ℤ} {p q : ℕ} → s ≡ stages n → l ≡ layerCount n → a ≡ n .driver .arrival → p ≤ 1000 → 1 ≤ q → q ≤ 1000
+    → {s l : ℕ} {a : ℤ} {p q : ℕ} → s ≡ stages n → l ≡ layerCount n → a ≡ n .driver .arrival → p ≤ maxShare → 1 ≤ q → q ≤ maxShare
     → Problem (treeOf n) driver wire limit costs s l a p q
 problem-of A L es el ea hp hq hq′ = record {
   numbers = record { laid = L; tree = well-formed A; stages-are = es; layers-are = el; arrival-is = ea; cheap = small-costs A };
@@ -38,10 +38,10 @@ problem-of A L es el ea hp hq hq′ = record {
 }
 
 module _ {n : Net} (A : Accepted n) where
-  -- no plan meets timing: refusal 11
-  pub late : {p q s : ℕ} {table after : List ℤ} {plan planAfter : List ℕ} → IsLate (treeOf n) p q s table after plan planAfter
+  -- No plan meets timing: refusal 11.
+  pub none-meets : {p q s : ℕ} {table after : List ℤ} {plan planAfter : List ℕ} → IsLate (treeOf n) p q s table after plan planAfter
       → ltb 0 (length (meetingPlans n)) ≡ false
-  late I = go (ltb 0 (length (meetingPlans n))) refl
+  none-meets I = go (ltb 0 (length (meetingPlans n))) refl
     where
       go : (b : Bool) → ltb 0 (length (meetingPlans n)) ≡ b → ltb 0 (length (meetingPlans n)) ≡ false
       go true e = let (x, M) = some-meeting A e in absurd (I .none x M)
@@ -53,22 +53,22 @@ module _ {n : Net} (A : Accepted n) where
   grain-value : (p q : ℕ) → value (treeOf n) (exponent (treeOf n) p q) ≡ leastRounded n (grainExponent n p q)
   grain-value p q = ap (value (treeOf n)) (exponent-same A p q) ∙ value-same A (grainExponent n p q)
 
-  -- too few columns: refusal 12
+  -- Too few columns: refusal 12.
   pub record TooShort (p q entries : ℕ) : Type 0 where
     pub some-meets : ltb 0 (length (meetingPlans n)) ≡ true
     pub few : leb (columnsNeeded n (grainExponent n p q)) (columns n entries) ≡ false
 
-  pub short : {p q s : ℕ} {table after : List ℤ} {plan planAfter : List ℕ} → s ≡ stages n → IsShort (treeOf n) p q s table after plan planAfter
+  pub too-short : {p q s : ℕ} {table after : List ℤ} {plan planAfter : List ℕ} → s ≡ stages n → IsShort (treeOf n) p q s table after plan planAfter
       → TooShort p q (length table)
   unfolding columnsNeeded columns
-  short {p} {q} {table = table} es I =
+  too-short {p} {q} {table = table} es I =
       let (x, M) = I .meeting in
       record {
         some-meets = some-of x M;
         few = lt-leb (leastRounded n (grainExponent n p q) + 1) (length table / (stages n + 2)) (omega (arith, rw es at (I .few), grain-value p q));
       }
 
-  -- the plan that 01 chooses: acceptance
+  -- The plan that 01 chooses: acceptance.
   pub record Served (p q entries : ℕ) (k g v : ℕ) (plan planAfter : List ℕ) : Type 0 where
     pub some-meets : ltb 0 (length (meetingPlans n)) ≡ true
     pub enough : leb (columnsNeeded n (grainExponent n p q)) (columns n entries) ≡ true
@@ -110,7 +110,7 @@ module _ {n : Net} (A : Accepted n) where
             (ap (take (length (I .chosen))) b ∙ take-at (I .chosen) (drop (length (I .chosen)) plan) (length (I .chosen)) refl);
       }
 
-  -- the floor g × V(k) keeps both bounds, and is small
+  -- The floor g × V(k) keeps both bounds, and is small.
   pub floor-is : {p q entries k g v : ℕ} {plan planAfter : List ℕ} (S : Served p q entries k g v plan planAfter) → IsFloor n p q (cost n (S .x)) (g * v)
   floor-is {p} {q} {k = k} {g = g} {v = v} S =
       let e : 2 ^ grainExponent n p q * leastRounded n (grainExponent n p q) ≡ g * v =

@@ -1,23 +1,26 @@
 // Planning a net that was read (01, Planning): the numbers of its tree of stages, the search over the grains, and what the plan found costs.
 use costs::stage_costs;
+use delays::NODE_ROWS;
 use delays::layer_delays;
 use rules::Planned;
 use search::Outcome;
 use search::plan_tree;
+use slices::STAGE_ENTRIES;
 use stage_numbers::stage_numbers;
 use timing::judged_by;
 use tree::stages;
 use words::arrival;
 ghost use mathlib.Core.Path.{_≡_};
 ghost use mathlib.Core.List.{List};
-ghost use Prim.Native.Nat.{ℕ};
+ghost use Prim.Native.Nat.{ℕ, _*_};
 ghost use lib.ListN.{length, replicate};
+ghost use Rattle.rules.specs.Bytes.{maxLayers, maxStages};
 ghost use Rattle.rules.specs.Reading.{accept, read};
 ghost use Rattle.words.specs.Words.{netIn};
 ghost use Rattle.demands.specs.StageNumbers.{treeOf};
 ghost use Rattle.words.specs.Held.{Held};
 ghost use Rattle.tree.specs.Staged.{Staged};
-ghost use Rattle.readoff.specs.Laid.{Laid, noLimit};
+ghost use Rattle.slices.specs.Laid.{Laid, noLimit};
 ghost use Rattle.search.specs.Planned as search;
 ghost use Rattle.planning.specs.Calls.{Admitted, refusedWith, PlansNet};
 
@@ -38,13 +41,14 @@ fn numbers(
 )
     requires { ⌜
         Held (now words) nodes layers × Staged (netIn (now words)) (now stage) (now below) ×
-        (length (now driver) ≡ 64) × (length (now wire) ≡ 1024) × (now limit ≡ replicate 1024 noLimit) × (now costs ≡ replicate 1024 0)
+        (length (now driver) ≡ maxStages) × (length (now wire) ≡ maxStages * maxLayers) × (now limit ≡ replicate (maxStages * maxLayers) noLimit) ×
+        (now costs ≡ replicate (maxStages * maxLayers) 0)
         ⌝ }
     ensures { λ r. ⌜
         Laid (treeOf (netIn (now (words .entry)))) (now (driver .exit)) (now (wire .exit)) (now (limit .exit)) (now (costs .exit))
         ⌝ }
 {
-    let mut delay = [0u64; 4096];
+    let mut delay = [0u64; NODE_ROWS * rules::MAX_LAYERS];
     layer_delays(words, layers, nodes, stage, &mut delay);
     stage_numbers(
         words,
@@ -80,10 +84,10 @@ fn plan_stages(
         search.Planned (treeOf (netIn (now (words .entry)))) p q count (now (table .entry)) (now (table .exit)) (now (plan .entry)) (now (plan .exit)) r
         ⌝ }
 {
-    let mut driver = [0usize; 64];
-    let mut wire = [0u64; 1024];
-    let mut limit = [NO_LIMIT; 1024];
-    let mut costs = [0u64; 1024];
+    let mut driver = [0usize; rules::MAX_STAGES];
+    let mut wire = [0u64; STAGE_ENTRIES];
+    let mut limit = [NO_LIMIT; STAGE_ENTRIES];
+    let mut costs = [0u64; STAGE_ENTRIES];
     numbers(
         words,
         layers,
@@ -179,8 +183,8 @@ pub fn plan_net(
         → PlansNet bs p q (now (table .entry)) (now (table .exit)) (now (plan .entry)) (now (plan .exit)) r)
         ⌝ }
 {
-    let mut stage = [0usize; 256];
-    let mut below = [0usize; 256];
+    let mut stage = [0usize; NODE_ROWS];
+    let mut below = [0usize; NODE_ROWS];
     stages(words, nodes, &mut stage, &mut below);
     plan_by(
         words,

@@ -16,7 +16,7 @@ use Rattle.rules.specs.Planning.{Choice, PlanAnswer, planned, plan, planAnswer}
 use Rattle.rules.specs.Program.{planLine, refusedLine, programLine}
 use Rattle.facts.specs.Accepted.{accepted}
 use Rattle.demands.specs.Values.{grain-in}
-use Rattle.demands.specs.Call.{settled, accepted-choice, number-refused, plan-taken, plan-accepted}
+use Rattle.demands.specs.Call.{choice-settled, accepted-choice, number-refused, plan-taken, plan-accepted}
 
 checked-stages : (bs : List ℕ) (n : Net) → read bs ≡ accept n → check bs .stages ≡ stages n
 unfolding check
@@ -43,7 +43,7 @@ module _ (bs : List ℕ) (table : List ℤ) (buffer : List ℕ) (long : length t
   accepted-line : (c : Choice) → planned bs 1 4 (length table) (length buffer) ≡ accept c → planned bs 1 4 8192 64 ≡ accept c → Line
   unfolding programLine
   accepted-line c e e′ =
-      let S = settled bs 1 4 (length table) (length buffer) e in
+      let S = choice-settled bs 1 4 (length table) (length buffer) e in
       let a = same ∙ plan-accepted bs 1 4 table buffer e in
       let ec : r .cost ≡ cost (c .net) (c .plan) = ap (λ (x : PlanAnswer). x .cost) a in
       let es : r .slack ≡ slack (c .net) (c .plan) = ap (λ (x : PlanAnswer). x .slack) a in

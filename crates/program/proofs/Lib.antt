@@ -1,2 +1,3 @@
 pub mod Powers
 pub mod Answers
+pub mod Checking

@@ -1,4 +1,5 @@
-// What the program prints (01, Program): the line for the net that an input holds.
+// What the programs print: the line for the net that an input holds, of planning (01, Program) and of checking (01, Reading).
+use line::counts_line;
 use line::plan_line;
 use line::refused_line;
 ghost use mathlib.Core.Path.{_≡_};
@@ -9,6 +10,7 @@ ghost use Rattle.io.specs.Counts.{Counts};
 ghost use Rattle.rules.specs.Grain.{maxExponent};
 ghost use Rattle.rules.specs.Program.{programLine};
 ghost use Rattle.line.specs.Length.{maxLine};
+ghost use Rattle.program.specs.Checking.{checkLine};
 
 // 2^k, by doubling: the grain.
 fn grain(k: u64) -> u64
@@ -41,4 +43,18 @@ pub fn answer_line(net: &[u8], out: &mut [u8]) -> usize
     let stages = counts.stages as usize;
     let g = grain(answer.k);
     plan_line(answer.cost, g, answer.slack, &plan[..stages], out)
+}
+
+// The line of checking for the net that the bytes hold, at the front of `out`: its counts, or the number of the first fault. Answers its length.
+pub fn check_line(net: &[u8], out: &mut [u8]) -> usize
+    requires { ⌜ maxLine ≤ length (now out) ⌝ }
+    ensures { λ r. ⌜ r ≡ length (checkLine (now (net .entry))) ⌝ }
+    ensures { λ r. ⌜ now (out .exit) ≡ checkLine (now (net .entry)) ++ drop r (now (out .entry)) ⌝ }
+    ensures { λ r. ⌜ Counts r (now (out .exit)) ⌝ }
+{
+    let checked = vorphiel::check(net);
+    if checked.refusal != 0 {
+        return refused_line(checked.refusal, out);
+    }
+    counts_line(checked.nodes, checked.stages, checked.layers, out)
 }

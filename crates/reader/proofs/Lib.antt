@@ -1,4 +1,3 @@
 pub mod Stored
-pub mod Steps
 pub mod Loop
 pub mod Whole

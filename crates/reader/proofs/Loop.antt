@@ -17,15 +17,17 @@ use Rattle.rules.specs.Tree.{Node, isSink, isBuffer, node, noNode}
 use Rattle.rules.specs.Bytes.{Field, maxLayers, maxNodes, maxChildren, dueNode, nodeAt, isNode, next}
 use Rattle.rules.specs.Reading.{Answer, accept, refuse, _>>=_, field, children, buffers, isParent, hasRoom, nodeField, nodesFrom, isWhole}
 use Rattle.facts.specs.Answers.{not-refused, accept-injective, then-accepted, unless-accepted, then-same, turned-accepted, turned-refused}
-use Rattle.reader.specs.Nodes.{roomFor, parentFor, wholeFor, stepField, stepAt, takenAt, Taken, stepTaken, counted, places}
-use Rattle.reader.specs.Nodes.{Put, Stored, Kids, StepRead, NodesRead}
+use Rattle.nodes.specs.Steps.{roomFor, parentFor, stepField, stepAt, takenAt, Taken, stepTaken}
+use Rattle.reader.specs.Nodes.{wholeFor, counted, places}
+use Rattle.nodes.specs.Steps.{Put, StepRead}
+use Rattle.reader.specs.Nodes.{Stored, Kids, NodesRead}
 use Rattle.reader.specs.declared.Nodes.the-variants as nodes
-use Rattle.reader.specs.declared.Step.{Step}
+use Rattle.nodes.specs.declared.Step.{Step}
 use Rattle.fields.proofs.Laws.{field-inside}
 use Rattle.words.specs.Words.{rowFor, Rows}
 use Rattle.words.specs.Puts.{recordAt}
 use Rattle.reader.proofs.Stored.{stored-none, stored-more, rows-kept}
-use Rattle.reader.proofs.Steps.{buffer-tag}
+use Rattle.nodes.proofs.Steps.{buffer-tag}
 
 -- one node more
 children-more : (ns : List Node) (n : Node) (j : ℕ) → children (ns ++ (n ∷ [])) j ≡ children ns j + bit (eqb (n .parent) j)
@@ -75,10 +77,10 @@ places-more ns n j = go (same-or (length ns + 1) j)
     go (inl e) = rw (e, node-last ns n, node-beyond ns, eq-eqb (length ns + 1) (length ns + 1) refl) (omega (arith, children-more ns n (length ns + 1)))
     go (inr e) = rw (node-other ns n j e, ne-eqb (length ns + 1) j (λ q. e (sym q))) (omega (arith, children-more ns n j))
 
-pub kids-none : {kids : List ℕ} → kids ≡ replicate 256 0 → Kids [] kids
-kids-none e = record { each = λ j h. rw e (getD-replicate 256 j 0 0 h ∙ sym (places-none j)) }
+pub kids-none : {kids : List ℕ} → kids ≡ replicate (maxNodes + 1) 0 → Kids [] kids
+kids-none e = record { each = λ j h. rw e (getD-replicate (maxNodes + 1) j 0 0 h ∙ sym (places-none j)) }
 
-module _ {ns : List Node} {kids : List ℕ} (K : Kids ns kids) (n : Node) (few : length ns ≤ 254) (low : n .parent ≤ length ns) (long : length kids ≡ 256) where
+module _ {ns : List Node} {kids : List ℕ} (K : Kids ns kids) (n : Node) (few : length ns ≤ 254) (low : n .parent ≤ length ns) (long : length kids ≡ maxNodes + 1) where
   parented-at : (j : ℕ) → getD (set kids (n .parent) (getD kids (n .parent) 0 + 1)) j 0 ≡ getD kids j 0 + 1 * bit (eqb (n .parent) j)
   parented-at j = added kids (n .parent) j 1 (omega arith)
 
@@ -138,7 +140,7 @@ module _ {ns : List Node} {kids : List ℕ} (K : Kids ns kids) (few : length ns 
       (λ i m. ap (leb 1) (K .each i (omega (arith, from-mem 0 (length ns + 1) i m))) ∙ some-or-sink (isSink (node ns i .kind)) (children ns i)))
 
 -- the nodes so far, and what the definition gives from here on
-pub record Going (bs : List ℕ) (L first : ℕ) (keep : Bool) (old words kids : List ℕ) (at count bufs : ℕ) : Type 0 where
+pub record ReadSoFar (bs : List ℕ) (L first : ℕ) (keep : Bool) (old words kids : List ℕ) (at count bufs : ℕ) : Type 0 where
   pub ns : List Node
   pub kids-are : Kids ns kids
   pub stored : Stored L ns keep old words
@@ -151,7 +153,7 @@ pub record Going (bs : List ℕ) (L first : ℕ) (keep : Bool) (old words kids :
   pub rows : Rows keep words
   pub same-size : length words ≡ length old
   pub thin : L ≤ maxLayers
-  pub kids-long : length kids ≡ 256
+  pub kids-long : length kids ≡ maxNodes + 1
 
 -- one step of the definition
 module _ (bs : List ℕ) (L : ℕ) (ns : List Node) (at : ℕ) where
@@ -188,21 +190,21 @@ passed bs L ns at {f} e =
     lower {p} c = leb-true _ _ (and-left (leb p (length ns)) _ (and-left (leb p (length ns) && not (isSink (node ns p .kind))) _ c))
 
 -- one turn of the loop: the two counts of kids fit, and the next state
-pub record Turn (bs : List ℕ) (L first : ℕ) (keep : Bool) (old words kids : List ℕ) (at count bufs : ℕ) (t : Taken) (next : List ℕ) : Type 0 where
+pub record NodeTurn (bs : List ℕ) (L first : ℕ) (keep : Bool) (old words kids : List ℕ) (at count bufs : ℕ) (t : Taken) (next : List ℕ) : Type 0 where
   pub low : t .node .parent ≤ count
   pub room : count ≤ 254
   pub small : getD kids (t .node .parent) 0 ≤ 257
   pub smaller : getD (set kids (t .node .parent) (getD kids (t .node .parent) 0 + 1)) (count + 1) 0 ≤ 256
   pub on : at < t .next
-  pub onward : Going bs L first keep old next
+  pub onward : ReadSoFar bs L first keep old next
       (set (set kids (t .node .parent) (getD kids (t .node .parent) 0 + 1)) (count + 1)
       (getD (set kids (t .node .parent) (getD kids (t .node .parent) 0 + 1)) (count + 1) 0 + maxChildren * bit (isSink (t .node .kind))))
       (t .next) (count + 1) (bufs + bit (isBuffer (t .node .kind)))
 
-module _ {bs : List ℕ} {L first : ℕ} {keep : Bool} {old words kids : List ℕ} {at count bufs : ℕ} (g : Going bs L first keep old words kids at count bufs) where
+module _ {bs : List ℕ} {L first : ℕ} {keep : Bool} {old words kids : List ℕ} {at count bufs : ℕ} (g : ReadSoFar bs L first keep old words kids at count bufs) where
   turn : at < length bs → (f : Field) → nodeField bs L (g .ns) at ≡ accept f → {after : List ℕ} → length after ≡ length words
       → Put bs L f words after (rowFor keep (length (g .ns)))
-      → Turn bs L first keep old words kids at (length (g .ns)) (buffers (g .ns)) (takenAt bs L f) after
+      → NodeTurn bs L first keep old words kids at (length (g .ns)) (buffers (g .ns)) (takenAt bs L f) after
   unfolding takenAt recordAt nodeAt next places
   turn h f e long P =
       let ns = g .ns in
@@ -242,27 +244,27 @@ module _ {bs : List ℕ} {L first : ℕ} {keep : Bool} {old words kids : List �
   same-step : stepField bs L count bufs kids at ≡ nodeField bs L (g .ns) at
   same-step = rw (← g .size, ← g .buffered) (step-same (g .kids-are) (omega (arith, g .size, g .few)) bs L at)
 
-  pub going-took : at < length bs → {t : Taken} {r : Step} {after : List ℕ} → StepRead bs L count bufs kids at keep r words after → accept t ≡ stepTaken r
+  pub read-took : at < length bs → {t : Taken} {r : Step} {after : List ℕ} → StepRead bs L count bufs kids at keep r words after → accept t ≡ stepTaken r
       → length after ≡ length words
-      → Turn bs L first keep old words kids at count bufs t after
-  going-took h {t} {r} {after} R et long =
+      → NodeTurn bs L first keep old words kids at count bufs t after
+  read-took h {t} {r} {after} R et long =
       let (f, a, q) = turned-accepted (nodeField bs L (g .ns) at) (takenAt bs L) (et ∙ R .answer ∙ stepped) in
       rw (← g .size, ← g .buffered, q) (turn h f a long (subst (λ (k : ℕ). Put bs L f words after (rowFor keep k)) (sym (g .size)) (R .put f (same-step ∙ a))))
 
   one-less : maxNodes + 1 - count ≡ suc (maxNodes - count)
   one-less = omega (arith, g .few)
 
-  pub going-no : at < length bs → {r : ℕ} → refuse r ≡ stepAt bs L count bufs kids at → nodesFrom (maxNodes + 1) bs L [] first ≡ refuse r
-  going-no h {r} e = sym (g .same) ∙ rw one-less (nodes-no bs L (g .ns) at (maxNodes - count) h
+  pub read-no : at < length bs → {r : ℕ} → refuse r ≡ stepAt bs L count bufs kids at → nodesFrom (maxNodes + 1) bs L [] first ≡ refuse r
+  read-no h {r} e = sym (g .same) ∙ rw one-less (nodes-no bs L (g .ns) at (maxNodes - count) h
       (turned-refused (nodeField bs L (g .ns) at) (takenAt bs L) (e ∙ stepped)))
 
-  pub going-end : length bs ≤ at → nodesFrom (maxNodes + 1) bs L [] first ≡ accept (g .ns)
-  going-end h = sym (g .same) ∙ rw one-less (nodes-end bs L (g .ns) at (maxNodes - count) h)
+  pub read-end : length bs ≤ at → nodesFrom (maxNodes + 1) bs L [] first ≡ accept (g .ns)
+  read-end h = sym (g .same) ∙ rw one-less (nodes-end bs L (g .ns) at (maxNodes - count) h)
 
-pub going-start : (bs : List ℕ) (L first : ℕ) {keep : Bool} {words kids : List ℕ} → first ≤ length bs → Rows keep words → L ≤ maxLayers → kids ≡ replicate 256 0
-    → Going bs L first keep words words kids first 0 0
+pub read-start : (bs : List ℕ) (L first : ℕ) {keep : Bool} {words kids : List ℕ} → first ≤ length bs → Rows keep words → L ≤ maxLayers → kids ≡ replicate (maxNodes + 1) 0
+    → ReadSoFar bs L first keep words words kids first 0 0
 unfolding buffers
-going-start bs L first {keep} {words} h lh thin ek = record {
+read-start bs L first {keep} {words} h lh thin ek = record {
   ns = [];
   kids-are = kids-none ek;
   stored = stored-none L keep words;
@@ -275,7 +277,7 @@ going-start bs L first {keep} {words} h lh thin ek = record {
   rows = lh;
   same-size = refl;
   thin = thin;
-  kids-long = ap length ek ∙ length-replicate {A = ℕ} 256 0;
+  kids-long = ap length ek ∙ length-replicate {A = ℕ} (maxNodes + 1) 0;
 }
 
 -- the loop's answer
@@ -288,10 +290,10 @@ module _ (bs : List ℕ) (L first : ℕ) (keep : Bool) (old words kids : List �
     stored = λ ns q. not-refused (sym h ∙ q);
   }
 
-  pub nodes-read : {at count bufs : ℕ} → (g : Going bs L first keep old words kids at count bufs) → length bs ≤ at
+  pub nodes-read : {at count bufs : ℕ} → (g : ReadSoFar bs L first keep old words kids at count bufs) → length bs ≤ at
       → NodesRead bs L first keep (nodes.Tree count bufs) old words kids
   nodes-read g b =
-      let h = going-end g b in
+      let h = read-end g b in
       record {
         counts = rw (← g .size, ← g .buffered) (sym (ap (λ (y : Answer (List Node)). y >>= λ ns. accept (counted ns)) h));
         few = λ ms q. subst (λ (l : List Node). (length l ≤ maxNodes) × (buffers l ≤ maxNodes)) (accept-injective (sym h ∙ q))

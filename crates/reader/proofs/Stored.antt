@@ -1,6 +1,6 @@
 -- The array while a net is read: that its rows are the nodes read so far, and that at the end it is the net.
 use mathlib.Core.Path.{_≡_, refl, ap, _∙_}
-use mathlib.Core.Bool.{Bool, true, false}
+use mathlib.Core.Bool.{Bool, true}
 use mathlib.Core.List.{List, [], _∷_, _++_, map, map-append}
 use Prim.Native.Nat.{ℕ, _+_, _<_, _≤_}
 use native.Mathlib.Numerals.{add-one}
@@ -10,35 +10,19 @@ use lib.Seq.{getD-set-same, getD-set-other}
 use Rattle.laws.specs.Basic.{from}
 use Rattle.laws.specs.Lists.{from-more, length-more}
 use Rattle.rules.specs.Tree as tree
-use Rattle.rules.specs.Bytes.{Field, maxLayers, maxNodes, bufferTag, costsAt, nodeAt, driverAt}
+use Rattle.rules.specs.Bytes.{Field, maxLayers, bufferTag, nodeAt, driverAt}
 use Rattle.words.specs.declared.Node.{Node}
-use Rattle.words.specs.Words.{rowAt, countAt, rowFor, Rows, cell, recordIn, nodeIn, nodesIn, driverIn, layersIn, netIn}
-use Rattle.words.specs.Puts.{recordAt, NodePut, DriverPut}
+use Rattle.words.specs.Words.{nodeRow, countAt, rowFor, Rows, cell, nodeIn, nodesIn, driverIn, layersIn, netIn}
+use Rattle.words.specs.Puts.{DriverPut}
 use Rattle.words.proofs.Cells.{nodes-same}
 use Rattle.words.proofs.Layers.{layers-same}
-use Rattle.reader.specs.Nodes.{Put, Stored}
+use Rattle.nodes.specs.Steps.{Put}
+use Rattle.nodes.proofs.Steps.{row-first}
+use Rattle.reader.specs.Nodes.{Stored}
 
--- the row of a node is not the driver's, and it is in the array
-pub row-first : (keep : Bool) (count : ℕ) → 1 ≤ rowFor keep count
-row-first true count = omega arith
-row-first false count = omega arith
-
-pub row-fits : (keep : Bool) {w : List ℕ} {count row : ℕ} → Rows keep w → count < maxNodes → row ≡ rowFor keep count → rowAt (row + 1) ≤ length w
-row-fits true R h e = omega (arith, R .all refl)
-row-fits false R h e = omega (arith, R .some)
-
+-- an array of the same length has the same rows
 pub rows-kept : {keep : Bool} {w v : List ℕ} → Rows keep w → length v ≡ length w → Rows keep v
 rows-kept R e = record { some = omega (arith, R .some); all = λ k. e ∙ R .all k }
-
--- the node of a field in its row
-pub put-node : {bs : List ℕ} {L : ℕ} {f : Field} {old new : List ℕ} {j : ℕ} → NodePut bs L (f .tag) (f .start) old new j true → Put bs L f old new j
-unfolding nodeIn nodeAt recordIn recordAt
-put-node {bs} {L} {f} N = record {
-  is =
-      rw (N .costs-are refl)
-      (ap (λ (n : Node). record { parent = n .parent; len = n .len; costs = costsAt bs L (f .start + 4); kind = n .kind }) (N .is));
-  lower = N .lower;
-}
 
 -- no node yet, and one node more
 pub stored-none : (L : ℕ) (keep : Bool) (old : List ℕ) → Stored L [] keep old old
@@ -68,7 +52,7 @@ module _ {bs : List ℕ} {L i : ℕ} {ns : List tree.Node} {keep r : Bool} {old 
   others : (k : ℕ) → (k ≡ countAt → ⊥) → getD (set words countAt count) k 0 ≡ getD words k 0
   others k h = getD-set-other words countAt k count 0 h
 
-  head : (k : ℕ) → k < rowAt 1 → (k ≡ countAt → ⊥) → getD (set words countAt count) k 0 ≡ getD mid k 0
+  head : (k : ℕ) → k < nodeRow 1 → (k ≡ countAt → ⊥) → getD (set words countAt count) k 0 ≡ getD mid k 0
   head k a b = others k b ∙ S .lower k a
 
   pub tag-put : cell (set words countAt count) 0 0 ≡ bufferTag
@@ -85,7 +69,7 @@ module _ {bs : List ℕ} {L i : ℕ} {ns : List tree.Node} {keep r : Bool} {old 
       )
       (D .is)
 
-  pub net-put : L ≤ maxLayers → rowAt 1 ≤ length words → count ≡ length ns → keep ≡ true
+  pub net-put : L ≤ maxLayers → nodeRow 1 ≤ length words → count ≡ length ns → keep ≡ true
       → netIn (set words countAt count) ≡ record { layers = layersIn old L; driver = driverAt bs i; nodes = ns }
   unfolding netIn
   net-put thin long size k = rw (counted, layered, driver-is, layers-are, nodes-are)

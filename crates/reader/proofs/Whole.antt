@@ -16,7 +16,7 @@ use Rattle.rules.specs.Bytes.{Field, maxNodes, maxLayers, layersAt, driverAt, i
 use Rattle.rules.specs.Reading.{Answer, accept, refuse, _>>=_, _>>_, _unless_, field, buffers, nodesFrom, isWhole, read}
 use Rattle.facts.specs.Answers.{not-refused, accept-injective, then-same, turned-accepted, turned-refused, test-turned}
 use Rattle.facts.specs.Accepted.{stages-are}
-use Rattle.words.specs.Words.{rowAt, countAt, layersIn}
+use Rattle.words.specs.Words.{nodeRow, countAt, layersIn}
 use Rattle.words.specs.Puts.{layersFrom, LayersPut, DriverPut}
 use Rattle.reader.specs.Nodes.{wholeFor, Counted, counted, Stored, NodesRead, TreeRead, treeFrom}
 use Rattle.reader.specs.Net.{countsOf, counts, restFrom, RestRead, NetRead}
@@ -169,7 +169,7 @@ module _ (bs : List ℕ) (L i : ℕ) (keep : Bool) (old words : List ℕ) where
       same-counts ns q = rw (ap (λ (k : Counted). k .count) q, ap (λ (k : Counted). k .bufs) q, stages-are (netOf ns)) (simp (length-map, length-from))
 
 pub rest-4 : {bs : List ℕ} {L i : ℕ} {keep : Bool} {old mid words : List ℕ} {f : Field} {n b : ℕ} {r : Bool} → field dueDriver bs i ≡ accept f → L ≤ maxLayers
-    → rowAt 1 ≤ length words
+    → nodeRow 1 ≤ length words
     → DriverPut bs L (f .start) old mid r → r ≡ true → TreeRead bs L (f .start + f .size) keep (nodes.Tree n b) mid words
     → RestRead bs L i keep (net.Read n (b + 1) L) old (set words countAt n)
 unfolding netOf

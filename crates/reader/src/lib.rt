@@ -1,24 +1,23 @@
-// Reading a net (01, Reading): node records one after the other, the tree that they make, the whole net.
+// Reading a net (01, Reading): node fields one after the other, the tree that they make, the whole net.
 use fields::Due;
 use fields::Found;
 use fields::field_at;
 use fields::found_refusal;
-use fields::kind_in_range;
+use nodes::Step;
+use nodes::read_node;
+use nodes::step_refusal;
 use rules::Kind;
-use words::Node;
-use words::node_in;
 use words::put_count;
 use words::put_driver;
 use words::put_layers;
-use words::put_node;
 ghost use mathlib.Core.Path.{_≡_};
-ghost use Prim.Native.Nat.{_*_, _≤_, _<_};
+ghost use Prim.Native.Nat.{_+_, _*_, _≤_, _<_};
 ghost use lib.ListN.{length, replicate};
 ghost use Rattle.laws.specs.Basic.{bit};
 ghost use Rattle.rules.specs.Tree.{isSink, isBuffer};
 ghost use Rattle.rules.specs.Bytes.{maxLayers, maxNodes, maxChildren};
-ghost use Rattle.words.specs.Words.{rowFor, Rows};
-ghost use Rattle.reader.specs.Nodes.{roomFor, rangesOf, parentFor, wholeFor, stepRefusal, nodesRefusal, StepRead, NodesRead, TreeRead};
+ghost use Rattle.words.specs.Words.{Rows};
+ghost use Rattle.reader.specs.Nodes.{wholeFor, nodesRefusal, NodesRead, TreeRead};
 ghost use Rattle.reader.specs.Net.{RestRead, NetRead};
 
 // 1 for a buffer, else 0.
@@ -57,113 +56,6 @@ fn sink_places(kind: Kind) -> u16
     }
 }
 
-// Whether there is room for one more node, of this tag (refusal 4).
-fn has_room(count: usize, buffers: usize, tag: u32) -> bool
-    ensures { λ r. ⌜ r ≡ roomFor count buffers tag ⌝ }
-{
-    if rules::MAX_NODES <= count {
-        return false;
-    }
-    if tag == 4 {
-        return buffers < rules::MAX_STAGES - 1;
-    }
-    true
-}
-
-// Whether the numbers of a node are in their ranges, given whether its costs are (refusal 3).
-fn in_ranges(node: Node, costs: bool) -> bool
-    ensures { λ r. ⌜ r ≡ rangesOf costs node ⌝ }
-{
-    let len = node.len;
-    let kind = node.kind;
-    if rules::MAX_LENGTH < len {
-        return false;
-    }
-    if !costs {
-        return false;
-    }
-    kind_in_range(kind)
-}
-
-// Whether node `parent` may have one more child (refusal 5).
-fn may_have_child(kids: &[u16], count: usize, parent: usize) -> bool
-    requires { ⌜ (count ≤ maxNodes) × (length (now kids) ≡ 256) ⌝ }
-    ensures { λ r. ⌜ r ≡ parentFor count (now (kids .entry)) parent ⌝ }
-{
-    if count < parent {
-        return false;
-    }
-    kids[parent] < rules::MAX_CHILDREN
-}
-
-// What reading a node field gives: its record and where the next field starts, or a refusal number.
-pub enum Step {
-    Node { node: Node, next: usize },
-    Refused(u8),
-}
-
-// The refusal number of a step, 0 for a node.
-fn step_refusal(step: Step) -> u8
-    ensures { λ r. ⌜ r ≡ stepRefusal step ⌝ }
-{
-    match step {
-        Step::Node { node: _, next: _ } => 0,
-        Step::Refused(r) => r,
-    }
-}
-
-// The row for the node after `count` nodes: its own where the net is kept, else always row 1.
-fn row_for(keep: bool, count: usize) -> usize
-    requires { ⌜ count < maxNodes ⌝ }
-    ensures { λ r. ⌜ r ≡ rowFor keep count ⌝ }
-{
-    if keep {
-        return count + 1;
-    }
-    1
-}
-
-// The node field that is due at `at`, after `count` nodes with `buffers` buffers among them, into its row: the field's own faults, then 4, 3, 5.
-fn node_at(
-    net: &[u8],
-    at: usize,
-    layers: usize,
-    count: usize,
-    buffers: usize,
-    kids: &[u16],
-    keep: bool,
-    words: &mut [u32],
-) -> Step
-    requires { ⌜
-        (layers ≤ maxLayers) × (at ≤ length (now net)) × (length (now kids) ≡ 256) × Rows keep (now words)
-        ⌝ }
-    ensures { λ r. ⌜
-        StepRead (now (net .entry)) layers count buffers (now (kids .entry)) at keep r (now (words .entry)) (now (words .exit))
-        ⌝ }
-{
-    let found = field_at(net, at, Due::Node, layers);
-    let Found::Field { tag, start, size } = found else {
-        return Step::Refused(found_refusal(found));
-    };
-    if !has_room(count, buffers, tag) {
-        return Step::Refused(4);
-    }
-    let row = row_for(keep, count);
-    let costs = put_node(net, tag, start, layers, row, words);
-    let node = node_in(words, row);
-    let parent = node.parent;
-    if !in_ranges(node, costs) {
-        return Step::Refused(3);
-    }
-    if !may_have_child(kids, count, parent) {
-        return Step::Refused(5);
-    }
-    Step::Node {
-        node,
-        next: start + size,
-    }
-}
-
 // What reading the nodes gives: how many there are and how many of them are buffers, or a refusal number.
 pub enum Nodes {
     Tree { count: usize, buffers: usize },
@@ -193,7 +85,7 @@ fn nodes_from(
     kids: &mut [u16],
 ) -> Nodes
     requires { ⌜
-        (layers ≤ maxLayers) × (first ≤ length (now net)) × Rows keep (now words) × (now kids ≡ replicate 256 0)
+        (layers ≤ maxLayers) × (first ≤ length (now net)) × Rows keep (now words) × (now kids ≡ replicate (maxNodes + 1) 0)
         ⌝ }
     ensures { λ r. ⌜ NodesRead (now (net .entry)) layers first keep r (now (words .entry)) (now (words .exit)) (now (kids .exit)) ⌝ }
 {
@@ -201,7 +93,7 @@ fn nodes_from(
     let mut count: usize = 0;
     let mut buffers: usize = 0;
     while at < net.len() {
-        let step = node_at(net, at, layers, count, buffers, kids, keep, words);
+        let step = read_node(net, at, layers, count, buffers, kids, keep, words);
         let Step::Node { node, next } = step else {
             return Nodes::Refused(step_refusal(step));
         };
@@ -218,7 +110,7 @@ fn nodes_from(
 
 // Whether every node but a sink has a child (refusal 6).
 fn all_have_children(kids: &[u16], count: usize) -> bool
-    requires { ⌜ (count ≤ maxNodes) × (length (now kids) ≡ 256) ⌝ }
+    requires { ⌜ (count ≤ maxNodes) × (length (now kids) ≡ maxNodes + 1) ⌝ }
     ensures { λ r. ⌜ r ≡ wholeFor count (now (kids .entry)) ⌝ }
 {
     let mut i: usize = 0;
@@ -236,7 +128,7 @@ fn tree_from(net: &[u8], first: usize, layers: usize, keep: bool, words: &mut [u
     requires { ⌜ (layers ≤ maxLayers) × (first ≤ length (now net)) × Rows keep (now words) ⌝ }
     ensures { λ r. ⌜ TreeRead (now (net .entry)) layers first keep r (now (words .entry)) (now (words .exit)) ⌝ }
 {
-    let mut kids = [0u16; 256];
+    let mut kids = [0u16; rules::MAX_NODES + 1];
     let nodes = nodes_from(net, first, layers, keep, words, &mut kids);
     let Nodes::Tree { count, buffers } = nodes else {
         return nodes;

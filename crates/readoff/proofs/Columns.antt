@@ -6,11 +6,11 @@ use native.Mathlib.Omega.{arith}
 use lib.IntN.{ℤ}
 use borrow.Author.Tests.{le-leb, lt-leb}
 use Rattle.oracle.specs.Band.{FirstIn, band-column}
-use Rattle.readoff.specs.Laid.{rowAt}
+use Rattle.bands.specs.Entries.{rowAt}
 use Rattle.readoff.specs.Contracts.{Column}
 
-pub column-inside : {table : List ℤ} {off start end width c : ℕ} {t t′ : ℤ} → 0 < width → t′ ≡ t → FirstIn (rowAt table off) start end t′ c → c < end → end ≤ width
-    → Column table off start end width t c
+pub column-inside : {table : List ℤ} {off start end width c : ℕ} {t t′ : ℤ} → 0 < width → t′ ≡ t → FirstIn (rowAt table off) start end t′ c → c < end
+    → end ≤ width → Column table off start end width t c
 column-inside {table} {off} {start} {end} {width} {c} {t} some e G h k =
     let F : FirstIn (rowAt table off) start end t c = rw e at G in
     let last : suc (width - 1) ≡ width = omega arith in

@@ -21,16 +21,13 @@ use Rattle.oracle.specs.Programme.{isReached, reached-self, leastCharge, least-
 use Rattle.oracle.specs.Timing.{charge}
 use Rattle.oracle.specs.ReadOff.{firstLayer, readOff, first-attains, read-least, read-step}
 use Rattle.oracle.specs.Result.{treeLeast, readPlan}
-use Rattle.readoff.specs.Laid.{onLayer, Laid}
-use Rattle.readoff.specs.Contracts.{Near, arriveAt, timeAt, Sized, Finished, Layer, PushIn, Pushed, PlanRead}
+use Rattle.slices.specs.Laid.{onLayer, timeAt, LaidDelays, delay-in-range}
+use Rattle.readoff.specs.Contracts.{Near, arriveAt, Sized, Finished, FirstLayer, PushIn, Pushed, PlanRead}
+use Rattle.readoff.specs.NearTimes.{Bounded}
 use Rattle.readoff.proofs.Times.{pushed-reach}
 
--- How far from 0 a time can lie after delays that add up to at most d.
-abbrev Bounded : ℕ → ℤ → Type 0
-Bounded d t = (up t ≤ maxTime + d) × (down t ≤ maxTime)
-
 -- The stages before i are read into `plan`, whose bytes were `before`.
-pub record Going (T : StageTree) (k : ℕ) (asked : ℕ → ℤ → Bool) (width : ℕ) (before : List ℕ) (times : List ℤ) (plan : List ℕ) (i : ℕ) : Type 0 where
+pub record ReadOffSoFar (T : StageTree) (k : ℕ) (asked : ℕ → ℤ → Bool) (width : ℕ) (before : List ℕ) (times : List ℤ) (plan : List ℕ) (i : ℕ) : Type 0 where
   -- the times of the definition, and the layers read
   pub reached : ℕ → ℤ
   pub layers-read : List ℕ
@@ -42,25 +39,26 @@ pub record Going (T : StageTree) (k : ℕ) (asked : ℕ → ℤ → Bool) (width
   pub in-window : (j : ℕ) → i ≤ j → j < T .stages → isReached T i j ≡ true → asked j (reached j) ≡ true
 
 -- The invariant of the loop: the bounds and the meaning for every tree that the slices hold.
-pub record Reading (table : List ℤ) (driver first next delay : List ℕ) (limit : List ℤ) (cost starts ends : List ℕ) (stages layers width g : ℕ) (arrival : ℤ) (before-times : List ℤ)
-    (before : List ℕ) (times : List ℤ) (plan : List ℕ) (i : ℕ) : Type 0 where
+pub record Reading (table : List ℤ) (driver first next delay : List ℕ) (limit : List ℤ) (cost starts ends : List ℕ) (stages layers width g : ℕ) (arrival : ℤ)
+    (before-times : List ℤ) (before : List ℕ) (times : List ℤ) (plan : List ℕ) (i : ℕ) : Type 0 where
   pub inside : i ≤ stages
   pub times-long : length times ≡ length before-times
   pub plan-long : length plan ≡ length before
   pub bounded : (T : StageTree) (S : Sized T table driver first next delay limit cost starts ends stages width g) → layers ≡ T .layers → arrival ≡ T .arrival
-      → (j : ℕ) → i ≤ j → j < stages → (0 < j → getD driver j 0 < i) → Bounded (S .laid .delays-to j) (timeAt times j)
-  pub is : (T : StageTree) (k : ℕ) (asked : ℕ → ℤ → Bool) → Finished T k asked table driver first next delay limit cost starts ends stages width g → layers ≡ T .layers → arrival ≡ T .arrival
-      → asked 0 (T .arrival) ≡ true → treeLeast T k (width - 1) < width → Going T k asked width before times plan i
+      → (j : ℕ) → i ≤ j → j < stages → (0 < j → getD driver j 0 < i) → Bounded (S .laid .delays .delays-to j) (timeAt times j)
+  pub is : (T : StageTree) (k : ℕ) (asked : ℕ → ℤ → Bool) → Finished T k asked table driver first next delay limit cost starts ends stages width g
+      → layers ≡ T .layers → arrival ≡ T .arrival
+      → asked 0 (T .arrival) ≡ true → treeLeast T k (width - 1) < width → ReadOffSoFar T k asked width before times plan i
 
 -- At the start stage 0 alone is reached.
-pub reading-start : {table : List ℤ} {driver first next delay : List ℕ} {limit : List ℤ} {cost starts ends : List ℕ} {stages layers width g : ℕ} {arrival : ℤ} {before : List ℕ}
-    (lent : List ℤ) (T : StageTree) → Sized T table driver first next delay limit cost starts ends stages width g → stages ≤ length lent
+pub reading-start : {table : List ℤ} {driver first next delay : List ℕ} {limit : List ℤ} {cost starts ends : List ℕ} {stages layers width g : ℕ} {arrival : ℤ}
+    {before : List ℕ} (lent : List ℤ) (T : StageTree) → Sized T table driver first next delay limit cost starts ends stages width g → stages ≤ length lent
     → Reading table driver first next delay limit cost starts ends stages layers width g arrival (set lent 0 arrival) before (set lent 0 arrival) before 0
 reading-start {driver = driver} {width = width} {arrival = arrival} lent T S long = record {
   inside = omega arith;
   times-long = refl;
   plan-long = refl;
-  bounded = λ T S el ea j a b driven. bounded (S .laid .delays-to) (rw ea (S .laid .arrival-most)) j driven;
+  bounded = λ T S el ea j a b driven. bounded (S .laid .delays .delays-to) (rw ea (S .laid .delays .arrival-most)) j driven;
   is = λ T k asked F el ea from-lo small. record {
     reached = λ j. T .arrival;
     layers-read = [];
@@ -76,7 +74,8 @@ reading-start {driver = driver} {width = width} {arrival = arrival} lent T S lon
     written : timeAt (set lent 0 arrival) 0 ≡ arrival
     written = getD-set-same lent 0 arrival (pos 0) (omega (arith, S .tree .some-stage, S .stages-are))
 
-    bounded : (to : ℕ → ℕ) → (up arrival ≤ maxTime) × (down arrival ≤ maxTime) → (j : ℕ) → (0 < j → getD driver j 0 < 0) → Bounded (to j) (timeAt (set lent 0 arrival) j)
+    bounded : (to : ℕ → ℕ) → (up arrival ≤ maxTime) × (down arrival ≤ maxTime) → (j : ℕ) → (0 < j → getD driver j 0 < 0)
+        → Bounded (to j) (timeAt (set lent 0 arrival) j)
     bounded to most zero driven = rw written (omega (arith, most), omega (arith, most))
     bounded to most (suc j) driven = absurd (omega (arith, driven (omega arith)))
 
@@ -88,26 +87,31 @@ reading-start {driver = driver} {width = width} {arrival = arrival} lent T S lon
     agree T zero r = written
     agree T (suc j) r = absurd (omega (arith, ltb-true (T .driver (suc j)) 0 r))
 
-module _ {table : List ℤ} {driver first next delay : List ℕ} {limit : List ℤ} {cost starts ends : List ℕ} {stages layers width g : ℕ} {arrival : ℤ} {before-times : List ℤ} {before : List ℕ} where
-  module _ {times : List ℤ} {plan : List ℕ} {i : ℕ} (here : Reading table driver first next delay limit cost starts ends stages layers width g arrival before-times before times plan i)
+module _ {table : List ℤ} {driver first next delay : List ℕ} {limit : List ℤ} {cost starts ends : List ℕ} {stages layers width g : ℕ} {arrival : ℤ}
+    {before-times : List ℤ} {before : List ℕ} where
+  module _ {times : List ℤ} {plan : List ℕ} {i : ℕ}
+      (here : Reading table driver first next delay limit cost starts ends stages layers width g arrival before-times before times plan i)
       (h : i < stages) where
     -- Stage i is reached, so its time is not far from 0.
-    reading-bounded : (T : StageTree) (S : Sized T table driver first next delay limit cost starts ends stages width g) → layers ≡ T .layers → arrival ≡ T .arrival
-        → Bounded (S .laid .delays-to i) (timeAt times i)
+    reading-bounded : (T : StageTree) (S : Sized T table driver first next delay limit cost starts ends stages width g) → layers ≡ T .layers
+        → arrival ≡ T .arrival → Bounded (S .laid .delays .delays-to i) (timeAt times i)
     reading-bounded T S el ea = here .bounded T S el ea i (omega arith) h (λ some. lower i some (omega (arith, S .stages-are)))
       where
         lower : (j : ℕ) → 0 < j → j < T .stages → getD driver j 0 < j
         lower zero some inside = absurd (omega arith)
-        lower (suc j) some inside = omega (arith, S .laid .driver-at (suc j) some inside, S .tree .lower j)
+        lower (suc j) some inside = omega (arith, S .laid .delays .driver-at (suc j) some inside, S .tree .lower j)
 
-    pub reading-near : (T : StageTree) → Sized T table driver first next delay limit cost starts ends stages width g → layers ≡ T .layers → arrival ≡ T .arrival → Near (timeAt times i)
-    reading-near T S el ea = let (a, b) = reading-bounded T S el ea in (omega (arith, S .laid .delays-most i (omega (arith, S .stages-are))), omega arith)
+    pub reading-near : (T : StageTree) → Sized T table driver first next delay limit cost starts ends stages width g → layers ≡ T .layers
+        → arrival ≡ T .arrival → Near (timeAt times i)
+    reading-near T S el ea =
+        let (a, b) = reading-bounded T S el ea in
+        (omega (arith, S .laid .delays .delays-most i (omega (arith, S .stages-are))), omega arith)
 
     -- What passing the time on asks.
-    pub push-in : (T : StageTree) → Sized T table driver first next delay limit cost starts ends stages width g → layers ≡ T .layers → arrival ≡ T .arrival → stages ≤ length before-times
-        → {l : ℕ} → l < layers → PushIn driver first next delay times stages i l
+    pub push-in : (T : StageTree) → Sized T table driver first next delay limit cost starts ends stages width g → layers ≡ T .layers → arrival ≡ T .arrival
+        → stages ≤ length before-times → {l : ℕ} → l < layers → PushIn driver first next delay times stages i l
     push-in T S e ea long {l} small =
-        let L = S .laid in
+        let L = S .laid .delays in
         record {
           inside = h;
           times-long = omega (arith, here .times-long);
@@ -116,17 +120,19 @@ module _ {table : List ℤ} {driver first next delay : List ℕ} {limit : List �
           layer-inside = omega (arith, L .few-layers);
           delay-most = λ j a b.
               let low : j < T .stages = omega (arith, S .stages-are) in
-              omega (arith, L .delay-at j l (omega arith) low (omega arith), L .delay-most j l (omega arith) low (omega arith), L .delays-most j low);
+              omega (arith, delay-in-range L j l (omega arith) low (omega arith));
           near = reading-near T S e ea;
         }
 
-    module _ {l : ℕ} {after : List ℤ} (N : Layer table driver first next delay limit cost starts ends stages layers width g i (timeAt times i) l) (P : Pushed driver delay times stages i l after) where
-      bounded-more : (T : StageTree) (S : Sized T table driver first next delay limit cost starts ends stages width g) → layers ≡ T .layers → arrival ≡ T .arrival
-          → (j : ℕ) → i + 1 ≤ j → j < stages → (0 < j → getD driver j 0 < i + 1) → Bounded (S .laid .delays-to j) (timeAt after j)
+    module _ {l : ℕ} {after : List ℤ} (N : FirstLayer table driver first next delay limit cost starts ends stages layers width g i (timeAt times i) l)
+        (P : Pushed driver delay times stages i l after) where
+      bounded-more : (T : StageTree) (S : Sized T table driver first next delay limit cost starts ends stages width g) → layers ≡ T .layers
+          → arrival ≡ T .arrival
+          → (j : ℕ) → i + 1 ≤ j → j < stages → (0 < j → getD driver j 0 < i + 1) → Bounded (S .laid .delays .delays-to j) (timeAt after j)
       bounded-more T S e ea j a b driven = rw (P .is j (omega arith) b) (go (eqb (getD driver j 0) i) refl)
         where
-          L : Laid T driver delay limit cost
-          L = S .laid
+          L : LaidDelays T driver delay
+          L = S .laid .delays
 
           low : j < T .stages
           low = omega (arith, S .stages-are)
@@ -141,8 +147,8 @@ module _ {table : List ℤ} {driver first next delay : List ℕ} {limit : List �
               (omega (arith, plus-up (timeAt times i) (onLayer delay j l)), omega (arith, plus-down (timeAt times i) (onLayer delay j l)))
           go false q = let other = eqb-false (getD driver j 0) i q in here .bounded T S e ea j (omega arith) b (λ some. omega (arith, driven some))
 
-      module _ (T : StageTree) (k : ℕ) (asked : ℕ → ℤ → Bool) (F : Finished T k asked table driver first next delay limit cost starts ends stages width g) (el : layers ≡ T .layers)
-          (G : Going T k asked width before times plan i) (long : stages ≤ length before) where
+      module _ (T : StageTree) (k : ℕ) (asked : ℕ → ℤ → Bool) (F : Finished T k asked table driver first next delay limit cost starts ends stages width g)
+          (el : layers ≡ T .layers) (G : ReadOffSoFar T k asked width before times plan i) (long : stages ≤ length before) where
         abbrev c : ℕ → ℕ → ℤ → ℕ
         c = charge T k (width - 1)
 
@@ -189,7 +195,7 @@ module _ {table : List ℤ} {driver first next delay : List ℕ} {limit : List �
 
         agree-more : (j : ℕ) → i < j → j < T .stages → isReached T (suc i) j ≡ true → timeAt after j ≡ onward j
         agree-more j a b r =
-            pushed-reach (F .sized .laid) (F .sized .stages-are) (omega (arith, N .most)) P j a b ∙ rw layer-is (go (eqb (T .driver j) i) refl)
+            pushed-reach (F .sized .laid .delays) (F .sized .stages-are) (omega (arith, N .most)) P j a b ∙ rw layer-is (go (eqb (T .driver j) i) refl)
           where
             go : (t : Bool) → eqb (T .driver j) i ≡ t
                 → (if t then arrive T j chosen (timeAt times i) else timeAt times j) ≡ (if t then arrive T j chosen (G .reached i) else G .reached j)
@@ -210,7 +216,7 @@ module _ {table : List ℤ} {driver first next delay : List ℕ} {limit : List �
                 F .filled .passes j chosen (omega arith) b small (rw s payable) (G .reached i) (rw s (G .in-window i (omega arith) low self))
             go false q = G .in-window j (omega arith) b (reached-before j a r q)
 
-        going-more : length plan ≡ length before → Going T k asked width before after (set plan i l) (suc i)
+        going-more : length plan ≡ length before → ReadOffSoFar T k asked width before after (set plan i l) (suc i)
         going-more same = record {
           reached = onward;
           layers-read = G .layers-read ++ (chosen ∷ []);
@@ -236,7 +242,8 @@ module _ {table : List ℤ} {driver first next delay : List ℕ} {limit : List �
       }
 
   -- At the end the plan is whole.
-  pub reading-end : {times : List ℤ} {plan : List ℕ} {i : ℕ} → Reading table driver first next delay limit cost starts ends stages layers width g arrival before-times before times plan i
+  pub reading-end : {times : List ℤ} {plan : List ℕ} {i : ℕ}
+      → Reading table driver first next delay limit cost starts ends stages layers width g arrival before-times before times plan i
       → stages ≤ i → PlanRead table driver first next delay limit cost starts ends stages layers width g arrival before plan
   reading-end {times} {plan} {i} here h = record {
     is = λ T k asked F el ea from-lo small.

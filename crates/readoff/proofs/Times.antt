@@ -10,10 +10,10 @@ use lib.ListN.{length, getD, set, length-set}
 use lib.Seq.{getD-set-same, getD-set-other}
 use borrow.Author.Tests.{eq-eqb, ne-eqb}
 use Rattle.laws.specs.Booleans.{same-or}
-use Rattle.fanout.specs.Contracts.{NextDriven, Linked}
+use Rattle.fanout.specs.Contracts.{NextOwned, Linked}
 use Rattle.oracle.specs.Stages.{StageTree, reach}
-use Rattle.readoff.specs.Laid.{Laid}
-use Rattle.readoff.specs.Contracts.{arriveAt, timeAt, reachAt, Pushed}
+use Rattle.slices.specs.Laid.{timeAt, LaidDelays}
+use Rattle.readoff.specs.Contracts.{arriveAt, reachAt, Pushed}
 
 -- Stages i + 1 to j - 1 have their times, and j is the next that stage i drives; `before` is the slice of times at the start.
 pub record Pushing (driver delay : List ℕ) (before : List ℤ) (stages i l : ℕ) (times : List ℤ) (j : ℕ) : Type 0 where
@@ -34,7 +34,7 @@ module _ {driver delay : List ℕ} {before : List ℤ} {stages i l : ℕ} where
     pushing-start h = let N = links .first-is i h in record {
       started = N .low;
       inside = N .most;
-      driven = N .driven;
+      driven = N .owned;
       long = refl;
       passed = λ m a b. stays driver delay before i l m (N .passed m a b);
       others = λ m a. refl;
@@ -46,13 +46,13 @@ module _ {driver delay : List ℕ} {before : List ℤ} {stages i l : ℕ} where
     pushing-more {times} {j} {x} here long h value = record {
       started = omega (arith, here .started, N .low);
       inside = N .most;
-      driven = N .driven;
+      driven = N .owned;
       long = length-set times j x ∙ here .long;
       passed = λ m a b. go m a b (same-or j m) (decLe m j);
       others = λ m a. kept m (λ e. omega (arith, N .low)) ∙ here .others m (omega (arith, N .low));
     }
       where
-        N : NextDriven driver stages i (suc j) (getD next j 0)
+        N : NextOwned driver stages i (suc j) (getD next j 0)
         N = rw (here .driven h) at (links .next-is j (omega (arith, here .started)) h)
 
         kept : (m : ℕ) → (m ≡ j → ⊥) → timeAt (set times j x) m ≡ timeAt times m
@@ -67,7 +67,8 @@ module _ {driver delay : List ℕ} {before : List ℤ} {stages i l : ℕ} where
   pushing-end here h = record { is = λ m a b. here .passed m a (omega arith) }
 
 -- What is passed on is `reach` of the tree whose numbers the slices hold.
-pub pushed-reach : {T : StageTree} {driver delay : List ℕ} {limit : List ℤ} {cost : List ℕ} {times after : List ℤ} {stages i l : ℕ} → Laid T driver delay limit cost
-    → stages ≡ T .stages → l < T .layers → Pushed driver delay times stages i l after → (j : ℕ) → i < j → j < T .stages → timeAt after j ≡ reach T i l (timeAt times) j
+pub pushed-reach : {T : StageTree} {driver delay : List ℕ} {times after : List ℤ} {stages i l : ℕ} → LaidDelays T driver delay
+    → stages ≡ T .stages → l < T .layers → Pushed driver delay times stages i l after → (j : ℕ) → i < j → j < T .stages
+    → timeAt after j ≡ reach T i l (timeAt times) j
 pushed-reach {l = l} L e small P j a b =
     P .is j a (omega arith) ∙ rw (L .driver-at j (omega arith) b, L .delay-at j l (omega arith) b small)

@@ -1,4 +1,2 @@
-pub mod Laid
-pub mod RowSets
 pub mod Contracts
 pub mod NearTimes

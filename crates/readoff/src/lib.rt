@@ -1,14 +1,15 @@
 // The plan read off the finished work table: columns looked up in its rows, and at each stage in number order the first layer that attains the least.
+use slices::Sizes;
 ghost use mathlib.Core.Path.{_≡_};
 ghost use Prim.Native.Nat.{_+_, _*_, _≤_, _<_};
 ghost use lib.ListN.{length};
 ghost use Rattle.oracle.specs.Stages.{StageTree};
 ghost use Rattle.rules.specs.Bytes.{maxLayers};
-ghost use Rattle.readoff.specs.Laid.{onLayer, maxDelay};
-ghost use Rattle.readoff.specs.Contracts.{Near, Column, arriveAt, DrivenIn, Driven, Sized, Need, Layer, PushIn, Pushed, ReadIn, PlanRead};
+ghost use Rattle.slices.specs.Laid.{maxDelay, onLayer};
+ghost use Rattle.readoff.specs.Contracts.{Near, Column, arriveAt, DrivenIn, DrivenNeed, Sized, Need, FirstLayer, PushIn, Pushed, ReadIn, PlanRead};
 
 // The first column of the row at `off` whose entry is no earlier than t, in its band from `start` to before `end`, and `width` if there is none.
-pub fn first_column(
+pub fn least_column(
     table: &[i64],
     off: usize,
     start: usize,
@@ -47,12 +48,12 @@ fn driven_need(
     j: usize,
 ) -> usize
     requires { ⌜ DrivenIn (now table) (now delay) (now starts) (now ends) width l t j ⌝ }
-    ensures { λ r. ⌜ Driven (now (table .entry)) (now (delay .entry)) (now (starts .entry)) (now (ends .entry)) width l t j r ⌝ }
+    ensures { λ r. ⌜ DrivenNeed (now (table .entry)) (now (delay .entry)) (now (starts .entry)) (now (ends .entry)) width l t j r ⌝ }
 {
     let reached = reached_at(delay, j, l, t);
     let start = starts[j];
     let end = ends[j];
-    first_column(table, j * width, start, end, width, reached)
+    least_column(table, j * width, start, end, width, reached)
 }
 
 // What stage i on layer l, reached at t, needs with all that it drives; `width` or more if that is above every budget.
@@ -66,27 +67,25 @@ fn need_on(
     cost: &[u64],
     starts: &[usize],
     ends: &[usize],
-    stages: usize,
-    width: usize,
-    g: u64,
+    n: Sizes,
     i: usize,
     l: usize,
     t: i64,
 ) -> usize
     requires { ⌜ ((T : StageTree) × Sized T (now table) (now driver) (now first) (now next) (now delay) (now limit) (now cost)
-        (now starts) (now ends) stages width g × (l < T .layers)) × (i < stages) × Near t ⌝ }
-    ensures { λ r. ⌜ Need (now (table .entry)) (now (driver .entry)) (now (first .entry)) (now (next .entry)) (now (delay .entry)) (now (limit .entry)) (now (cost .entry))
-        (now (starts .entry)) (now (ends .entry)) stages width g i l t r ⌝ }
+        (now starts) (now ends) (n .stages) (n .width) (n .grain) × (l < T .layers)) × (i < n .stages) × Near t ⌝ }
+    ensures { λ r. ⌜ Need (now (table .entry)) (now (driver .entry)) (now (first .entry)) (now (next .entry)) (now (delay .entry)) (now (limit .entry))
+        (now (cost .entry)) (now (starts .entry)) (now (ends .entry)) (n .stages) (n .width) (n .grain) i l t r ⌝ }
 {
     let at = i * rules::MAX_LAYERS + l;
     let last = limit[at];
     if last < t {
-        return width;
+        return n.width;
     }
-    let mut need = (cost[at] / g) as usize;
+    let mut need = (cost[at] / n.grain) as usize;
     let mut j = first[i];
-    while j < stages {
-        need += driven_need(table, delay, starts, ends, width, l, t, j);
+    while j < n.stages {
+        need += driven_need(table, delay, starts, ends, n.width, l, t, j);
         j = next[j];
     }
     need
@@ -103,23 +102,20 @@ fn layer_for(
     cost: &[u64],
     starts: &[usize],
     ends: &[usize],
-    stages: usize,
-    layers: usize,
-    width: usize,
-    g: u64,
+    n: Sizes,
     i: usize,
     t: i64,
 ) -> usize
     requires { ⌜ ((T : StageTree) × Sized T (now table) (now driver) (now first) (now next) (now delay) (now limit) (now cost)
-        (now starts) (now ends) stages width g × (layers ≡ T .layers)) × (i < stages) × Near t ⌝ }
-    ensures { λ r. ⌜ Layer (now (table .entry)) (now (driver .entry)) (now (first .entry)) (now (next .entry)) (now (delay .entry)) (now (limit .entry)) (now (cost .entry))
-        (now (starts .entry)) (now (ends .entry)) stages layers width g i t r ⌝ }
+        (now starts) (now ends) (n .stages) (n .width) (n .grain) × (n .layers ≡ T .layers)) × (i < n .stages) × Near t ⌝ }
+    ensures { λ r. ⌜ FirstLayer (now (table .entry)) (now (driver .entry)) (now (first .entry)) (now (next .entry)) (now (delay .entry)) (now (limit .entry))
+        (now (cost .entry)) (now (starts .entry)) (now (ends .entry)) (n .stages) (n .layers) (n .width) (n .grain) i t r ⌝ }
 {
     let start = starts[i];
     let end = ends[i];
-    let least = first_column(table, i * width, start, end, width, t);
+    let least = least_column(table, i * n.width, start, end, n.width, t);
     let mut l: usize = 0;
-    while l + 1 < layers {
+    while l + 1 < n.layers {
         if need_on(
             table,
             driver,
@@ -130,9 +126,7 @@ fn layer_for(
             cost,
             starts,
             ends,
-            stages,
-            width,
-            g,
+            n,
             i,
             l,
             t,
@@ -180,21 +174,20 @@ pub fn read_plan(
     cost: &[u64],
     starts: &[usize],
     ends: &[usize],
-    stages: usize,
-    layers: usize,
-    width: usize,
-    g: u64,
+    n: Sizes,
     arrival: i64,
     times: &mut [i64],
     plan: &mut [u8],
 )
-    requires { ⌜ ReadIn (now table) (now driver) (now first) (now next) (now delay) (now limit) (now cost) (now starts) (now ends) stages layers width g arrival (now times) (now plan) ⌝ }
-    ensures { λ _. ⌜ PlanRead (now (table .entry)) (now (driver .entry)) (now (first .entry)) (now (next .entry)) (now (delay .entry)) (now (limit .entry)) (now (cost .entry)) (now (starts .entry)) (now (ends .entry))
-        stages layers width g arrival (now (plan .entry)) (now (plan .exit)) ⌝ }
+    requires { ⌜ ReadIn (now table) (now driver) (now first) (now next) (now delay) (now limit) (now cost) (now starts) (now ends)
+        (n .stages) (n .layers) (n .width) (n .grain) arrival (now times) (now plan) ⌝ }
+    ensures { λ _. ⌜ PlanRead (now (table .entry)) (now (driver .entry)) (now (first .entry)) (now (next .entry)) (now (delay .entry)) (now (limit .entry))
+        (now (cost .entry)) (now (starts .entry)) (now (ends .entry)) (n .stages) (n .layers) (n .width) (n .grain)
+        arrival (now (plan .entry)) (now (plan .exit)) ⌝ }
 {
     times[0] = arrival;
     let mut i: usize = 0;
-    while i < stages {
+    while i < n.stages {
         let t = times[i];
         let l = layer_for(
             table,
@@ -206,15 +199,12 @@ pub fn read_plan(
             cost,
             starts,
             ends,
-            stages,
-            layers,
-            width,
-            g,
+            n,
             i,
             t,
         );
         plan[i] = l as u8;
-        push(driver, first, next, delay, times, stages, i, l);
+        push(driver, first, next, delay, times, n.stages, i, l);
         i += 1;
     }
 }

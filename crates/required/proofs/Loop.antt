@@ -10,20 +10,20 @@ use mir.Syntax.{w64}
 use mir.Val.{SFits}
 use Rattle.laws.specs.Basic.{minZ}
 use Rattle.rules.specs.Tree.{Net, at, isRoot, isTerminal, isBuffer, root, drives, stageOf, on}
-use Rattle.rules.specs.Bytes.{maxTime}
+use Rattle.rules.specs.Bytes.{maxNodes, maxTime}
 use Rattle.rules.specs.Timing.{terminalTime, required}
 use Rattle.rules.specs.declared.Kind.the-variants.{Steiner, Buffer, Sink}
 use Rattle.facts.specs.Accepted.{Accepted}
 use Rattle.facts.specs.Stages.{TerminalOf, climb-root, root-before, root-drives, root-is-buffer, drives-below}
 use Rattle.facts.specs.Words.{sink-time, buffer-time}
-use Rattle.fanout.specs.Contracts.{NextDriven}
+use Rattle.fanout.specs.Contracts.{NextOwned}
 use Rattle.words.specs.Words.{netIn}
 use Rattle.words.specs.Held.{held-accepted}
 use Rattle.tree.specs.Staged.{stageBelow}
 use Rattle.delays.specs.Delayed.{delayTo}
 use Rattle.required.specs.Timed.{Timed}
 use Rattle.required.specs.Links.{drives-low, stage-lower}
-use Rattle.required.specs.Scan.{Scan, scan-start, scan-jump, scan-take, scan-end, asked-is, asked-fits, delay-small}
+use Rattle.required.specs.Scan.{TerminalsSoFar, terminals-start, terminals-jump, terminals-take, terminals-end, asked-is, asked-fits, delay-small}
 
 -- Below a root begins the stage that it drives.
 below-root : (n : Net) (i : ℕ) → isRoot n i ≡ true → stageBelow n i ≡ drives n i
@@ -32,11 +32,11 @@ below-root n i e = ap (drives n) (climb-root n i i (omega arith) e)
 
 -- How long the tables are.
 pub record Sizes (nodes : ℕ) (below first next delay : List ℕ) : Type 0 where
-  pub nodes-in : nodes ≤ 255
-  pub below-long : length below ≡ 256
+  pub nodes-in : nodes ≤ maxNodes
+  pub below-long : length below ≡ maxNodes + 1
   pub first-long : nodes < length first
   pub next-long : nodes < length next
-  pub delay-long : 256 ≤ length delay
+  pub delay-long : maxNodes + 1 ≤ length delay
 
 -- The table has the stage that root i drives, and there are links for it.
 pub record Entered (w : List ℕ) (nodes : ℕ) (below : List ℕ) (i : ℕ) : Type 0 where
@@ -44,11 +44,11 @@ pub record Entered (w : List ℕ) (nodes : ℕ) (below : List ℕ) (i : ℕ) : T
   pub low : getD below i 0 ≤ nodes
 
 -- The loop of the stage that node i drives: the terminals before node j have asked r, and j, if it is a node, is one of the stage.
-pub record Going (w plan : List ℕ) (nodes i j : ℕ) (r : ℤ) : Type 0 where
+pub record LeastSoFar (w plan : List ℕ) (nodes i j : ℕ) (r : ℤ) : Type 0 where
   pub some : 1 ≤ j
   pub inside : j ≤ nodes + 1
   pub own : j ≤ nodes → stageOf (netIn w) j ≡ drives (netIn w) i
-  pub scan : Scan (netIn w) plan (drives (netIn w) i) j r
+  pub scan : TerminalsSoFar (netIn w) plan (drives (netIn w) i) j r
 
 module _ {w : List ℕ} {nodes : ℕ} {below first next delay plan : List ℕ} (T : Timed w nodes below first next delay plan) where
   -- The net was accepted.
@@ -70,13 +70,13 @@ module _ {w : List ℕ} {nodes : ℕ} {below first next delay plan : List ℕ} (
   }
 
   -- The loop comes to the next node of the stage: the nodes that the link passes over are of other stages.
-  landed : {i k j : ℕ} {r : ℤ} → 1 ≤ k → Scan (netIn w) plan (drives (netIn w) i) k r → NextDriven (T .stage) (nodes + 1) (drives (netIn w) i) k j
-      → Going w plan nodes i j r
+  landed : {i k j : ℕ} {r : ℤ} → 1 ≤ k → TerminalsSoFar (netIn w) plan (drives (netIn w) i) k r → NextOwned (T .stage) (nodes + 1) (drives (netIn w) i) k j
+      → LeastSoFar w plan nodes i j r
   landed {i} {k} {j} a S N = record {
     some = omega (arith, N .low);
     inside = N .most;
-    own = λ b. sym (T .staged .stage-is j (omega (arith, N .low)) (inside b)) ∙ N .driven (omega arith);
-    scan = scan-jump S (λ m u v d. N .passed m u v (T .staged .stage-is m (d .edge .after) (d .edge .inside) ∙ d .edge .stage));
+    own = λ b. sym (T .staged .stage-is j (omega (arith, N .low)) (inside b)) ∙ N .owned (omega arith);
+    scan = terminals-jump S (λ m u v d. N .passed m u v (T .staged .stage-is m (d .edge .after) (d .edge .inside) ∙ d .edge .stage));
   }
 
   module _ {i : ℕ} (h : i ≤ nodes) (e : isRoot (netIn w) i ≡ true) where
@@ -87,19 +87,19 @@ module _ {w : List ℕ} {nodes : ℕ} {below first next delay plan : List ℕ} (
         record { is = q; low = omega (arith, drives-low (netIn w) i) }
 
     -- At first: the nodes of the stage have numbers above the stage's.
-    pub going-start : Going w plan nodes i (getD first (getD below i 0) 0) (pos maxTime)
-    going-start = landed (omega arith) (scan-jump (scan-start (netIn w) plan (drives (netIn w) i)) (λ m u v d. early m v d)) link
+    pub required-start : LeastSoFar w plan nodes i (getD first (getD below i 0) 0) (pos maxTime)
+    required-start = landed (omega arith) (terminals-jump (terminals-start (netIn w) plan (drives (netIn w) i)) (λ m u v d. early m v d)) link
       where
         early : (m : ℕ) → m < suc (drives (netIn w) i) → TerminalOf (netIn w) (drives (netIn w) i) m → ⊥
         early m v d = omega (arith, stage-lower A m (d .edge .after) (d .edge .inside), d .edge .stage)
 
-        link : NextDriven (T .stage) (nodes + 1) (drives (netIn w) i) (suc (drives (netIn w) i)) (getD first (getD below i 0) 0)
+        link : NextOwned (T .stage) (nodes + 1) (drives (netIn w) i) (suc (drives (netIn w) i)) (getD first (getD below i 0) 0)
         link = rw (entered .is) (T .linked .first-is (drives (netIn w) i) (omega (arith, drives-low (netIn w) i)))
 
-    module _ {j : ℕ} {r : ℤ} (g : Going w plan nodes i j r) where
+    module _ {j : ℕ} {r : ℤ} (g : LeastSoFar w plan nodes i j r) where
       -- After the last node the least is the required time of the stage.
-      pub going-end : nodes < j → r ≡ required (netIn w) plan (drives (netIn w) i)
-      going-end b = scan-end (g .scan) A (omega (arith, T .held .nodes-are)) (drives-below (netIn w) i (inside h))
+      pub required-end : nodes < j → r ≡ required (netIn w) plan (drives (netIn w) i)
+      required-end b = terminals-end (g .scan) A (omega (arith, T .held .nodes-are)) (drives-below (netIn w) i (inside h))
 
       module _ (b : j ≤ nodes) where
         -- A node of the stage comes after the root.
@@ -107,7 +107,7 @@ module _ {w : List ℕ} {nodes : ℕ} {below first next delay plan : List ℕ} (
         after-root = omega (arith, root-before A j (g .some) (inside b), ap (root (netIn w)) (g .own b), root-drives (netIn w) i (inside h) e)
 
         -- The link from j leads to the next node of the stage,
-        link : NextDriven (T .stage) (nodes + 1) (drives (netIn w) i) (suc j) (getD next j 0)
+        link : NextOwned (T .stage) (nodes + 1) (drives (netIn w) i) (suc j) (getD next j 0)
         link =
             let q : getD (T .stage) j 0 ≡ drives (netIn w) i = T .staged .stage-is j (g .some) (inside b) ∙ g .own b in
             rw q at (T .linked .next-is j (g .some) (omega arith))
@@ -117,8 +117,8 @@ module _ {w : List ℕ} {nodes : ℕ} {below first next delay plan : List ℕ} (
         onward = link .low
 
         -- A node that is no terminal asks nothing.
-        pub going-skip : isTerminal (at (netIn w) j .kind) ≡ false → Going w plan nodes i (getD next j 0) r
-        going-skip q = landed (omega arith) (scan-jump (g .scan) other) link
+        pub required-skip : isTerminal (at (netIn w) j .kind) ≡ false → LeastSoFar w plan nodes i (getD next j 0) r
+        required-skip q = landed (omega arith) (terminals-jump (g .scan) other) link
           where
             other : (m : ℕ) → j ≤ m → m < suc j → TerminalOf (netIn w) (drives (netIn w) i) m → ⊥
             other m u v d =
@@ -140,9 +140,9 @@ module _ {w : List ℕ} {nodes : ℕ} {below first next delay plan : List ℕ} (
           asked-fine = rw delay-is (delay-small A plan terminal ez, asked-fits A plan terminal ez)
 
           -- and what it asks is taken.
-          pub going-take : Going w plan nodes i (getD next j 0) (minZ r (z -ℤ pos (getD delay j 0)))
-          going-take =
-              landed (omega arith) (scan-take (g .scan) terminal (ap (λ (k : ℕ). z -ℤ pos k) delay-is ∙ asked-is A plan terminal ez)) link
+          pub required-take : LeastSoFar w plan nodes i (getD next j 0) (minZ r (z -ℤ pos (getD delay j 0)))
+          required-take =
+              landed (omega arith) (terminals-take (g .scan) terminal (ap (λ (k : ℕ). z -ℤ pos k) delay-is ∙ asked-is A plan terminal ez)) link
 
 -- The required time of a terminal, by its kind.
 module _ (n : Net) (plan : List ℕ) (j : ℕ) where

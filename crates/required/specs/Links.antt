@@ -6,6 +6,7 @@ use native.Mathlib.Omega.{arith}
 use lib.ListN.{length}
 use Rattle.laws.specs.Booleans.{bit-le}
 use Rattle.rules.specs.Tree.{Net, at, isBuffer, root, drives, stageOf}
+use Rattle.rules.specs.Bytes.{maxNodes}
 use Rattle.facts.specs.Accepted.{Accepted}
 use Rattle.facts.specs.Stages.{stage-at, stage-below, root-before}
 use Rattle.fanout.specs.Contracts.{LinkIn}
@@ -27,11 +28,11 @@ stage-lower {n} A j a b =
 
 -- So the nodes may be linked by the stages of their edges.
 pub stage-links : {w : List ℕ} {nodes layers : ℕ} {stage below first next : List ℕ} → Held w nodes layers → Staged (netIn w) stage below
-    → 256 ≤ length first → 256 ≤ length next → LinkIn stage first next (nodes + 1)
+    → maxNodes + 1 ≤ length first → maxNodes + 1 ≤ length next → LinkIn stage first next (nodes + 1)
 stage-links {w} {nodes} H S f g =
-    let few : nodes ≤ 255 = omega (arith, H .accepted .few-nodes, H .nodes-are) in
+    let few : nodes ≤ maxNodes = omega (arith, H .accepted .few-nodes, H .nodes-are) in
     record {
-      drivers = omega (arith, S .stage-long);
+      owners = omega (arith, S .stage-long);
       firsts = omega arith;
       nexts = omega arith;
       lower = λ j a b.

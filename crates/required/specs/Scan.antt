@@ -14,7 +14,7 @@ use mir.Syntax.{w64}
 use mir.Val.{SFits}
 use borrow.Author.Tests.{leb-true, leb-false}
 use Rattle.laws.specs.Basic.{minZ}
-use Rattle.laws.specs.Integers.{up, down, pos-view, le-true, thin, same-view, least-is, min-left, min-right, le-trans, le-self, minus-minus}
+use Rattle.laws.specs.Integers.{up, down, pos-view, le-true, thin, same-view, leastOf-is, min-left, min-right, le-trans, le-self, minus-minus}
 use Rattle.rules.specs.Tree.{Net, stages, terminals, on}
 use Rattle.rules.specs.Bytes.{maxTime}
 use Rattle.rules.specs.Timing.{gateDelay, wireDelay, terminalTime, required}
@@ -30,26 +30,26 @@ unfoldable pub askedBy : Net → List ℕ → ℕ → ℕ → ℤ
 askedBy n x t j = asked n (required n x) (on x t) t j
 
 -- r is the least that the terminals before node j ask, or the greatest time there can be.
-pub record Scan (n : Net) (x : List ℕ) (t j : ℕ) (r : ℤ) : Type 0 where
+pub record TerminalsSoFar (n : Net) (x : List ℕ) (t j : ℕ) (r : ℤ) : Type 0 where
   pub below : (m : ℕ) → m < j → TerminalOf n t m → leZ r (askedBy n x t m) ≡ true
   pub one : (r ≡ pos maxTime) ⊎ ((m : ℕ) × TerminalOf n t m × (r ≡ askedBy n x t m))
 
 -- Before the first node no terminal has asked.
-pub scan-start : (n : Net) (x : List ℕ) (t : ℕ) → Scan n x t 0 (pos maxTime)
-scan-start n x t = record { below = λ m h d. absurd (omega arith); one = inl refl }
+pub terminals-start : (n : Net) (x : List ℕ) (t : ℕ) → TerminalsSoFar n x t 0 (pos maxTime)
+terminals-start n x t = record { below = λ m h d. absurd (omega arith); one = inl refl }
 
-module _ {n : Net} {x : List ℕ} {t j : ℕ} {r : ℤ} (S : Scan n x t j r) where
+module _ {n : Net} {x : List ℕ} {t j : ℕ} {r : ℤ} (S : TerminalsSoFar n x t j r) where
   -- Nodes that are no terminals of the stage may be passed over.
-  pub scan-jump : {k : ℕ} → ((m : ℕ) → j ≤ m → m < k → TerminalOf n t m → ⊥) → Scan n x t k r
-  scan-jump {k} other = record { below = λ m h d. before m h d (leb j m) refl; one = S .one }
+  pub terminals-jump : {k : ℕ} → ((m : ℕ) → j ≤ m → m < k → TerminalOf n t m → ⊥) → TerminalsSoFar n x t k r
+  terminals-jump {k} other = record { below = λ m h d. before m h d (leb j m) refl; one = S .one }
     where
       before : (m : ℕ) → m < k → TerminalOf n t m → (b : Bool) → leb j m ≡ b → leZ r (askedBy n x t m) ≡ true
       before m h d true e = absurd (other m (leb-true j m e) h d)
       before m h d false e = S .below m (leb-false j m e) d
 
   -- A terminal of the stage lowers the least.
-  pub scan-take : TerminalOf n t j → {a : ℤ} → a ≡ askedBy n x t j → Scan n x t (suc j) (minZ r a)
-  scan-take d {a} e = record { below = λ m h f. before m f (eq-or-lt-of-le {n = m} {m = j} (omega arith)); one = pick (leZ r a) (S .one) }
+  pub terminals-take : TerminalOf n t j → {a : ℤ} → a ≡ askedBy n x t j → TerminalsSoFar n x t (suc j) (minZ r a)
+  terminals-take d {a} e = record { below = λ m h f. before m f (eq-or-lt-of-le {n = m} {m = j} (omega arith)); one = pick (leZ r a) (S .one) }
     where
       before : (m : ℕ) → TerminalOf n t m → (m ≡ j) ⊎ (m < j) → leZ (minZ r a) (askedBy n x t m) ≡ true
       before m f (inl q) = le-trans (minZ r a) a (askedBy n x t m) (min-right r a) (ap (leZ a) (ap (askedBy n x t) q ∙ sym e) ∙ le-self a)
@@ -61,9 +61,9 @@ module _ {n : Net} {x : List ℕ} {t j : ℕ} {r : ℤ} (S : Scan n x t j r) whe
       pick false o = inr (j, d, e)
 
   -- After the last node it is the required time of the stage.
-  pub scan-end : Accepted n → length (n .nodes) < j → t < stages n → r ≡ required n x t
+  pub terminals-end : Accepted n → length (n .nodes) < j → t < stages n → r ≡ required n x t
   unfolding askedBy
-  scan-end A h l = sym (required-is A x t l ∙ least-is r (map ask (terminals n t)) member lowest)
+  terminals-end A h l = sym (required-is A x t l ∙ leastOf-is r (map ask (terminals n t)) member lowest)
     where
       ask : ℕ → ℤ
       ask = asked n (required n x) (on x t) t

@@ -9,7 +9,7 @@ use Rattle.tree.specs.Staged.{Staged}
 use Rattle.tree.specs.Plans.{Fitting}
 use Rattle.delays.specs.Delayed.{PlanDelays}
 
--- what the code of required times rests on
+-- What the code of required times rests on.
 pub record Timed (w : List ℕ) (nodes : ℕ) (below first next delay plan : List ℕ) : Type 0 where
   pub layers : ℕ
   pub held : Held w nodes layers

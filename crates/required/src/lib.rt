@@ -14,8 +14,8 @@ ghost use Rattle.rules.specs.Timing.{required, terminalTime};
 ghost use Rattle.words.specs.Words.{netIn};
 ghost use Rattle.required.specs.Timed.{Timed};
 
-// The lesser of two times.
-fn lesser(a: i64, b: i64) -> i64
+// The earlier of two times.
+fn earlier(a: i64, b: i64) -> i64
     ensures { λ r. ⌜ r ≡ minZ a b ⌝ }
 {
     if a <= b {
@@ -76,7 +76,7 @@ pub fn stage_required(
         if is_terminal(kind) {
             let time = terminal_required(words, nodes, below, first, next, delay, kind, j);
             let asked = less(time, delay[j]);
-            least = lesser(least, asked);
+            least = earlier(least, asked);
         }
         j = next[j];
     }

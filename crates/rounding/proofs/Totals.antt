@@ -13,27 +13,27 @@ use Rattle.laws.specs.Extremes.{lowest-le, lowest-same}
 use Rattle.laws.specs.Lists.{map-same, from-mem, mem-from}
 use Rattle.laws.specs.Passing.{leastUpTo, leastUpTo-is}
 use Rattle.laws.specs.Sums.{sum-from}
-use Rattle.rules.specs.Bytes.{maxLayers}
+use Rattle.rules.specs.Bytes.{maxLayers, maxStages}
 use Rattle.rules.specs.Tree.{on}
-use Rattle.rules.specs.Grain.{rounded}
+use Rattle.rules.specs.Grain.{maxExponent, rounded}
 use Rattle.oracle.specs.Stages.{StageTree}
 use Rattle.oracle.specs.Plans.{each-at, plans-mem}
 use Rattle.oracle.specs.Value.{planRounded, MeetingPlan}
-use Rattle.oracle.specs.Excess.{leastRounded, base, excess}
-use Rattle.readoff.specs.Laid.{onLayer}
-use Rattle.readoff.specs.RowSets.{RowSet}
-use Rattle.rounding.specs.Contracts.{Costs, planIn, OnLayerIn, PlanIn, StageIn, ExcessRowIn, ExcessIn, Excess}
+use Rattle.oracle.specs.Excess.{stageLeast, excess-less}
+use Rattle.slices.specs.Rows.{RowSet, row-kept}
+use Rattle.slices.specs.Laid.{onLayer, cost-in-range}
+use Rattle.rounding.specs.Contracts.{Costs, planIn, OnLayerIn, CostRow, ExcessRowIn, ExcessIn, Excess}
 
--- The sum of f over the stages before i, no term of which is above 2^28.
+-- The sum of f over the stages before i, no term of which is above the largest grain.
 pub record Total (f : ℕ → ℕ) (stages total i : ℕ) : Type 0 where
   pub inside : i ≤ stages
   pub is : total ≡ sum (map f (from 0 i))
-  pub most : total ≤ i * 2 ^ 28
+  pub most : total ≤ i * 2 ^ maxExponent
 
 pub total-start : (f : ℕ → ℕ) (stages : ℕ) → Total f stages 0 0
 total-start f stages = record { inside = omega arith; is = refl; most = omega arith }
 
-pub total-more : {f : ℕ → ℕ} {stages total i c : ℕ} → Total f stages total i → i < stages → c ≡ f i → c ≤ 2 ^ 28 → Total f stages (total + c) (i + 1)
+pub total-more : {f : ℕ → ℕ} {stages total i c : ℕ} → Total f stages total i → i < stages → c ≡ f i → c ≤ 2 ^ maxExponent → Total f stages (total + c) (i + 1)
 total-more {f} {stages} {total} {i} {c} S h e m =
     let z : i + 1 ≡ suc i = omega arith in
     let f0 = rw (zero-add i) at (sum-from f 0 i) in
@@ -50,23 +50,30 @@ rounded-sum g f (x ∷ xs) = omega (arith, rounded-sum g f xs)
 abbrev pub rounds : List ℕ → List ℕ → ℕ → ℕ → ℕ
 rounds cost plan g i = onLayer cost i (getD plan i 0) / g
 
-module _ {T : StageTree} {cost : List ℕ} (plan : List ℕ) {stages : ℕ} (C : Costs T cost stages (T .layers)) (M : MeetingPlan T (planIn stages plan)) where
+module _ {T : StageTree} {cost : List ℕ} (plan : List ℕ) {stages : ℕ} (C : Costs T cost stages) (M : MeetingPlan T (planIn stages plan)) where
   -- The layer of a stage in the plan.
   on-is : (i : ℕ) → i < stages → on (planIn stages plan) i ≡ getD plan i 0
   on-is i h = getD-take stages plan i 0 h
 
-  pub layer-in : (i : ℕ) → i < stages → getD plan i 0 < T .layers
-  layer-in i h =
+  pub plan-layer : (i : ℕ) → i < stages → getD plan i 0 < T .layers
+  plan-layer i h =
       let (len, u) = plans-mem (T .layers) (T .stages) (planIn stages plan) (M .plan) in
       let b = each-at (T .layers) (planIn stages plan) i u (omega (arith, C .stages-are)) in
       omega (arith, on-is i h)
 
   pub on-layer : {g : ℕ} → 0 < g → (i : ℕ) → i < stages → OnLayerIn cost g i (getD plan i 0)
   on-layer h i b =
-      record { stage-in = omega (arith, C .few-stages); layer-in = omega (arith, layer-in i b, C .few-layers); long = omega (arith, C .long); some-grain = h }
+      record {
+        stage-in = omega (arith, C .few-stages, C .stages-are);
+        layer-in = omega (arith, plan-layer i b, C .few-layers);
+        long = omega (arith, C .laid .cost-long, C .stages-are);
+        some-grain = h;
+      }
 
-  pub rounds-most : (g : ℕ) {i c : ℕ} → i < stages → c ≡ rounds cost plan g i → c ≤ 2 ^ 28
-  rounds-most g {i} h e = omega (arith, e, div-le-self (onLayer cost i (getD plan i 0)) g, C .cost-most i (getD plan i 0) h (layer-in i h))
+  pub rounds-most : (g : ℕ) {i c : ℕ} → i < stages → c ≡ rounds cost plan g i → c ≤ 2 ^ maxExponent
+  rounds-most g {i} h e =
+      let low : i < T .stages = omega (arith, C .stages-are) in
+      omega (arith, e, div-le-self (onLayer cost i (getD plan i 0)) g, cost-in-range (C .laid) i (getD plan i 0) low (plan-layer i h))
 
   pub rounded-is : (k : ℕ) {g : ℕ} → g ≡ 2 ^ k → sum (map (rounds cost plan g) (from 0 stages)) ≡ planRounded T k (planIn stages plan)
   rounded-is k e = rw e (sym (rounded-sum (2 ^ k) (λ i. T .cost i (on (planIn stages plan) i)) (from 0 (T .stages)) ∙ rw (sym (C .stages-are)) (same)))
@@ -74,7 +81,10 @@ module _ {T : StageTree} {cost : List ℕ} (plan : List ℕ) {stages : ℕ} (C :
       same : sum (map (λ i. T .cost i (on (planIn stages plan) i) / 2 ^ k) (from 0 stages)) ≡ sum (map (rounds cost plan (2 ^ k)) (from 0 stages))
       same =
           let s = map-same (λ i. T .cost i (on (planIn stages plan) i) / 2 ^ k) (rounds cost plan (2 ^ k)) (from 0 stages)
-          (λ i m. let h : i < stages = omega (arith, from-mem 0 stages i m) in rw (on-is i h, C .cost-at i (getD plan i 0) h (layer-in i h))) in
+          (λ i m.
+          let h : i < stages = omega (arith, from-mem 0 stages i m) in
+          let low : i < T .stages = omega (arith, C .stages-are) in
+          rw (on-is i h, C .laid .cost-at i (getD plan i 0) low (plan-layer i h))) in
           rw s
 
 -- The least of the layers before l.
@@ -100,68 +110,80 @@ least-end {f = f} {layers = suc n} {least = least} {l = l} h L m =
     )
 
 -- The least rounded cost of stage i, by the slice.
-abbrev pub leastOn : List ℕ → ℕ → ℕ → ℕ → ℕ
-leastOn cost layers g i = lowest (λ l. onLayer cost i l / g) (from 0 layers)
+abbrev pub leastSlice : List ℕ → ℕ → ℕ → ℕ → ℕ
+leastSlice cost layers g i = lowest (λ l. onLayer cost i l / g) (from 0 layers)
 
 -- The rows before i are done: what is taken off is added up, and the rest stands in `slice`.
-pub record Taken (cost : List ℕ) (stages layers g : ℕ) (before slice : List ℕ) (total i : ℕ) : Type 0 where
-  pub sum-is : Total (leastOn cost layers g) stages total i
+pub record TakenOff (cost : List ℕ) (stages layers g : ℕ) (before slice : List ℕ) (total i : ℕ) : Type 0 where
+  pub sum-is : Total (leastSlice cost layers g) stages total i
   pub long : length slice ≡ length before
-  pub rows : (j l : ℕ) → j < i → l < layers → onLayer slice j l ≡ onLayer cost j l / g - leastOn cost layers g j
+  pub rows : (j l : ℕ) → j < i → l < layers → onLayer slice j l ≡ onLayer cost j l / g - leastSlice cost layers g j
 
-pub taken-start : (cost : List ℕ) (stages layers g : ℕ) (before : List ℕ) → Taken cost stages layers g before before 0 0
+pub taken-start : (cost : List ℕ) (stages layers g : ℕ) (before : List ℕ) → TakenOff cost stages layers g before before 0 0
 taken-start cost stages layers g before = record { sum-is = total-start _ stages; long = refl; rows = λ j l h b. absurd (omega arith) }
 
 module _ {cost before : List ℕ} {stages layers g : ℕ} (I : ExcessIn cost stages layers g before) where
-  pub stage-in : (i : ℕ) → i < stages → StageIn cost layers g i
-  stage-in i h =
+  pub cost-row : (i : ℕ) → i < stages → CostRow cost layers g i
+  cost-row i h =
       let C = I .costs in
       record {
-        stage-in = omega (arith, C .few-stages);
-        some-layer = C .some-layer;
-        few-layers = C .few-layers;
-        long = omega (arith, C .long);
+        stage-in = omega (arith, C .few-stages, C .stages-are);
+        some-layer = omega (arith, C .some-layer, I .layers-are);
+        few-layers = omega (arith, C .few-layers, I .layers-are);
+        long = omega (arith, C .laid .cost-long, C .stages-are);
         some-grain = I .some-grain;
       }
 
-  least-small : (i l : ℕ) → l < layers → leastOn cost layers g i ≤ onLayer cost i l / g
+  least-small : (i l : ℕ) → l < layers → leastSlice cost layers g i ≤ onLayer cost i l / g
   least-small i l h = lowest-le (λ l. onLayer cost i l / g) (from 0 layers) (mem-from 0 layers l (omega arith) (omega arith))
 
-  pub row-in : {slice : List ℕ} {total i least : ℕ} → Taken cost stages layers g before slice total i → i < stages → least ≡ leastOn cost layers g i
-      → ExcessRowIn cost layers g i least slice
-  row-in {i = i} W h e =
-      record { row = stage-in i h; excess-long = W .long ∙ I .excess-long; least-le = λ l b. omega (arith, e, least-small i l b) }
+  pub excess-row-in : {slice : List ℕ} {total i least : ℕ} → TakenOff cost stages layers g before slice total i → i < stages
+      → least ≡ leastSlice cost layers g i → ExcessRowIn cost layers g i least slice
+  excess-row-in {i = i} W h e =
+      record {
+        row = cost-row i h;
+        excess-row = record { row-in = cost-row i h .stage-in; long = omega (arith, W .long, I .excess-long) };
+        least-le = λ l b. omega (arith, e, least-small i l b);
+      }
 
-  pub least-most : {i least : ℕ} → i < stages → least ≡ leastOn cost layers g i → least ≤ 2 ^ 28
+  pub least-most : {i least : ℕ} → i < stages → least ≡ leastSlice cost layers g i → least ≤ 2 ^ maxExponent
   least-most {i} h e =
-      let z = I .costs .some-layer in
-      omega (arith, e, least-small i 0 z, div-le-self (onLayer cost i 0) g, I .costs .cost-most i 0 h z)
+      let C = I .costs in
+      let some : 0 < layers = cost-row i h .some-layer in
+      let low : i < I .tree .stages = omega (arith, C .stages-are) in
+      omega (arith, e, least-small i 0 some, div-le-self (onLayer cost i 0) g, cost-in-range (C .laid) i 0 low (C .some-layer))
 
-  pub taken-more : {slice after : List ℕ} {total i least : ℕ} → Taken cost stages layers g before slice total i → i < stages → least ≡ leastOn cost layers g i
-      → RowSet 0 slice after i layers (λ l. onLayer cost i l / g - least) → Taken cost stages layers g before after (total + least) (i + 1)
+  pub taken-more : {slice after : List ℕ} {total i least : ℕ} → TakenOff cost stages layers g before slice total i → i < stages
+      → least ≡ leastSlice cost layers g i
+      → RowSet 0 maxLayers slice after i layers (λ l. onLayer cost i l / g - least) → TakenOff cost stages layers g before after (total + least) (i + 1)
   taken-more {slice} {after} {total} {i} {least} W h e R = record {
     sum-is = total-more (W .sum-is) h e (least-most h e);
     long = R .long ∙ W .long;
     rows = λ j l b c. row j l b c (same-or i j);
   }
     where
-      row : (j l : ℕ) → j < i + 1 → l < layers → (j ≡ i) ⊎ (j ≡ i → ⊥) → onLayer after j l ≡ onLayer cost j l / g - leastOn cost layers g j
+      row : (j l : ℕ) → j < i + 1 → l < layers → (j ≡ i) ⊎ (j ≡ i → ⊥) → onLayer after j l ≡ onLayer cost j l / g - leastSlice cost layers g j
       row j l b c (inl q) = rw q (R .set-to l c ∙ rw e)
-      row j l b c (inr ne) = R .others j l (omega (arith, I .costs .few-layers)) (λ q. absurd (ne q)) ∙ W .rows j l (omega arith) c
+      row j l b c (inr ne) = row-kept R j l (omega (arith, cost-row i h .few-layers)) ne ∙ W .rows j l (omega arith) c
 
-pub taken-end : {cost before slice : List ℕ} {stages layers g total i : ℕ} → length before ≡ 1024 → Taken cost stages layers g before slice total i → stages ≤ i
-    → (T : StageTree) (k : ℕ) → Costs T cost stages layers → g ≡ 2 ^ k → Excess T k slice total
-taken-end {cost} {before} {slice} {stages} {layers} {g} long W h T k C e = record {
-  long = W .long ∙ long;
-  base-is = total-end (W .sum-is) h ∙ rw (map-same (leastOn cost layers g) (leastRounded T k) (from 0 stages) (λ i m. least-is i (omega (arith, from-mem 0 stages i m))), C .stages-are);
-  cost-at = λ i l a b.
-      let i-in : i < stages = omega (arith, C .stages-are) in
-      let l-in : l < layers = omega (arith, C .layers-are) in
-      W .rows i l (omega arith) l-in ∙ rw (least-is i i-in, C .cost-at i l i-in l-in, e);
+pub taken-end : {cost before slice : List ℕ} {stages layers g total i : ℕ} → maxStages * maxLayers ≤ length before
+    → TakenOff cost stages layers g before slice total i → stages ≤ i
+    → (T : StageTree) (k : ℕ) → Costs T cost stages → layers ≡ T .layers → g ≡ 2 ^ k → Excess T k slice total
+taken-end {cost} {before} {slice} {stages} {layers} {g} long W h T k C same e = record {
+  base-is =
+      let same = map-same (leastSlice cost layers g) (stageLeast T k) (from 0 stages) (λ i m. least-is i (omega (arith, from-mem 0 stages i m))) in
+      total-end (W .sum-is) h ∙ rw (same, C .stages-are);
+  laid = record {
+    cost-long = omega (arith, W .long, C .few-stages);
+    cost-at = λ i l a b.
+        let i-in : i < stages = omega (arith, C .stages-are) in
+        W .rows i l (omega arith) (omega arith) ∙ rw (least-is i i-in, C .laid .cost-at i l a b, e);
+    cost-most = λ i l a b. omega (arith, excess-less T k i l, C .laid .cost-most i l a b);
+  };
 }
   where
-    least-is : (i : ℕ) → i < stages → leastOn cost layers g i ≡ leastRounded T k i
+    least-is : (i : ℕ) → i < stages → leastSlice cost layers g i ≡ stageLeast T k i
     least-is i a =
         lowest-same (λ l. onLayer cost i l / g) (λ l. T .cost i l / 2 ^ k) (from 0 layers)
-        (λ l m. rw (C .cost-at i l a (omega (arith, from-mem 0 layers l m)), e))
-        ∙ rw (C .layers-are)
+        (λ l m. rw (C .laid .cost-at i l (omega (arith, C .stages-are)) (omega (arith, from-mem 0 layers l m)), e))
+        ∙ rw same

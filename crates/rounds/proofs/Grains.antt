@@ -10,36 +10,46 @@ use lib.IntN.{ℤ}
 use lib.Pow.{pow-pos}
 use Rattle.laws.specs.Sums.{sum-mono}
 use Rattle.laws.specs.Basic.{from}
+use Rattle.rules.specs.Bytes.{maxStages}
+use Rattle.rules.specs.Grain.{maxExponent}
 use Rattle.rules.specs.Tree.{on}
 use Rattle.oracle.specs.Stages.{StageTree, planCosts}
 use Rattle.oracle.specs.Rounding.{rounded-below}
 use Rattle.oracle.specs.Value.{planRounded, value, MeetingPlan, value-le}
-use Rattle.oracle.specs.Excess.{excess, excess-formed, excess-less, excess-plan, value-split, first-same}
+use Rattle.oracle.specs.Excess.{excess, excess-formed, excess-less, excess-plan, value-split, first-excess}
 use Rattle.fanout.specs.Contracts.{Linked}
+use Rattle.slices.specs.Laid.{LaidDelays}
 use Rattle.readoff.specs.Contracts.{ReadIn, PlanRead}
 use Rattle.rounding.specs.Contracts.{Costs, planIn, Excess}
 use Rattle.rounds.specs.Problem.{Numbers}
 use Rattle.rounds.specs.Contracts.{RoundIn, Round, Known, PlanAt}
-use Rattle.rounds.proofs.Rounds.{round-value, read-in, read-first}
+use Rattle.rounds.proofs.Rounds.{round-value, read-in, round-first}
+
+-- Taking costs off leaves drivers and delays.
+excess-delays : {T : StageTree} (k : ℕ) {driver delay : List ℕ} → LaidDelays T driver delay → LaidDelays (excess T k) driver delay
+excess-delays k L = record {
+  few-stages = L .few-stages;
+  few-layers = L .few-layers;
+  driver-long = L .driver-long;
+  delay-long = L .delay-long;
+  driver-at = L .driver-at;
+  delay-at = L .delay-at;
+  delays-to = L .delays-to;
+  delay-most = L .delay-most;
+  delays-most = L .delays-most;
+  arrival-most = L .arrival-most;
+}
 
 module _ {driver delay : List ℕ} {limit : List ℤ} {cost : List ℕ} {stages layers : ℕ} {arrival : ℤ} where
   -- What rounding asks of the slice of costs.
-  pub costs-of : {T : StageTree} → Numbers T driver delay limit cost stages layers arrival → Costs T cost stages layers
-  costs-of {T} N =
-      let L = N .laid in
-      record {
-        stages-are = N .stages-are;
-        layers-are = N .layers-are;
-        few-stages = omega (arith, N .stages-are, L .few-stages);
-        some-layer = omega (arith, N .layers-are, N .tree .some-layer);
-        few-layers = omega (arith, N .layers-are, L .few-layers);
-        long = omega (arith, N .stages-are, L .cost-long);
-        cost-at = λ i l a b. L .cost-at i l (omega (arith, N .stages-are)) (omega (arith, N .layers-are));
-        cost-most = λ i l a b.
-            let u : i < T .stages = omega (arith, N .stages-are) in
-            let v : l < T .layers = omega (arith, N .layers-are) in
-            rw (L .cost-at i l u v) (L .cost-most i l u v);
-      }
+  pub costs-of : {T : StageTree} → Numbers T driver delay limit cost stages layers arrival → Costs T cost stages
+  costs-of N = record {
+    laid = N .laid .costs;
+    stages-are = N .stages-are;
+    few-stages = N .laid .delays .few-stages;
+    some-layer = N .tree .some-layer;
+    few-layers = N .laid .delays .few-layers;
+  }
 
   -- The slices with the costs that are left hold the numbers of the tree with these costs.
   pub excess-numbers : {T : StageTree} {k base : ℕ} {slice : List ℕ} → Numbers T driver delay limit cost stages layers arrival
@@ -48,34 +58,24 @@ module _ {driver delay : List ℕ} {limit : List ℤ} {cost : List ℕ} {stages 
       let L = N .laid in
       record {
         laid = record {
-          few-stages = L .few-stages;
-          few-layers = L .few-layers;
-          driver-long = L .driver-long;
-          delay-long = L .delay-long;
+          delays = excess-delays k (L .delays);
           limit-long = L .limit-long;
-          cost-long = omega (arith, L .few-stages, X .long);
-          driver-at = L .driver-at;
-          delay-at = L .delay-at;
           limit-at = L .limit-at;
-          cost-at = X .cost-at;
-          delays-to = L .delays-to;
-          delay-most = L .delay-most;
-          delays-most = L .delays-most;
           limit-most = L .limit-most;
-          cost-most = λ i l a b. omega (arith, excess-less T k i l, L .cost-most i l a b);
-          arrival-most = L .arrival-most;
+          costs = X .laid;
         };
         tree = excess-formed T k (N .tree);
         stages-are = N .stages-are;
         layers-are = N .layers-are;
         arrival-is = N .arrival-is;
         cheap = λ x.
-            omega (arith, sum-mono (λ i. excess T k .cost i (on x i)) (λ i. T .cost i (on x i)) (λ i. excess-less T k i (on x i)) (from 0 (T .stages)), N .cheap x);
+            let less = sum-mono (λ i. excess T k .cost i (on x i)) (λ i. T .cost i (on x i)) (λ i. excess-less T k i (on x i)) (from 0 (T .stages)) in
+            omega (arith, N .cheap x);
       }
 
   -- The rounded cost of a known plan is small.
   pub bound-small : {T : StageTree} {k bound : ℕ} {known : List ℕ} → Numbers T driver delay limit cost stages layers arrival → Known T k stages known bound
-      → bound < 2 ^ 28
+      → bound < 2 ^ maxExponent
   bound-small {T} {k} {bound} {known} N K =
       let x = planIn stages known in
       let h = pow-pos k in
@@ -115,13 +115,14 @@ module _ {driver delay : List ℕ} {limit : List ℤ} {cost : List ℕ} {stages 
         room-left : (stages + 2) * width ≤ length table
         room-left = let m : width ≤ columns = omega arith in omega (arith, room, mul-le-mul-left (stages + 2) m)
 
-        pub round-in : {starts ends : List ℕ} → length starts ≡ 64 → length ends ≡ 64 → RoundIn table driver delay limit slice starts ends stages layers arrival 1 width
+        pub round-in : {starts ends : List ℕ} → length starts ≡ maxStages → length ends ≡ maxStages
+            → RoundIn table driver delay limit slice starts ends stages layers arrival 1 width
         round-in p q = record {
           tree = excess T k;
           numbers = left;
           sized = room-left;
-          starts-long = omega (arith, N .stages-are, N .laid .few-stages);
-          ends-long = omega (arith, N .stages-are, N .laid .few-stages);
+          starts-long = omega (arith, N .stages-are, N .laid .delays .few-stages);
+          ends-long = omega (arith, N .stages-are, N .laid .delays .few-stages);
           some-column = some-width;
           some-grain = omega arith;
         }
@@ -138,15 +139,18 @@ module _ {driver delay : List ℕ} {limit : List ℤ} {cost : List ℕ} {stages 
             fits : spent < width
             fits = omega (arith, spent-is)
 
-            pub reading : {first next : List ℕ} {times : List ℤ} {plan : List ℕ} → Linked driver first next stages → length times ≡ 64 → stages ≤ length plan
-                → ReadIn table driver first next delay limit slice starts ends stages layers width 1 arrival times plan
+            pub reading : {first next : List ℕ} {times : List ℤ} {plan : List ℕ} → Linked driver first next stages → length times ≡ maxStages
+                → stages ≤ length plan → ReadIn table driver first next delay limit slice starts ends stages layers width 1 arrival times plan
             reading L = read-in left R L refl fits room-left
 
-            pub plan-at : {first next before after : List ℕ} → Linked driver first next stages → PlanRead table driver first next delay limit slice starts ends stages layers width 1 arrival before after
+            pub plan-at : {first next before after : List ℕ} → Linked driver first next stages
+                → PlanRead table driver first next delay limit slice starts ends stages layers width 1 arrival before after
                 → PlanAt T k columns stages after (base + spent)
             plan-at L P = record {
               is = omega (arith, value-is, spent-is);
-              chosen = λ b. sym (first-same T k (planIn stages known) (K .meets)) ∙ read-first left R L refl fits room-left (planIn stages known) left-meets P;
+              chosen = λ b.
+                  sym (first-excess T k (planIn stages known) (K .meets))
+                  ∙ round-first left R L refl fits room-left (planIn stages known) left-meets P;
             }
 
             pub sum-small : base + spent ≤ bound

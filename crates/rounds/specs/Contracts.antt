@@ -10,15 +10,15 @@ use Rattle.oracle.specs.Stages.{StageTree}
 use Rattle.oracle.specs.Value.{planRounded, value, firstPlan, MeetingPlan}
 use Rattle.oracle.specs.Result.{treeLeast}
 use Rattle.fanout.specs.Contracts.{Linked}
-use Rattle.readoff.specs.Laid.{Filled}
-use Rattle.windows.specs.Contracts.{Delayed, Opened}
+use Rattle.readoff.specs.Contracts.{BandsFilled}
+use Rattle.windows.specs.Contracts.{WindowsIn, Opened}
 use Rattle.rounding.specs.Contracts.{planIn}
 use Rattle.rounds.specs.Problem.{Numbers}
 
 -- prepare: the slices hold the drivers and delays of some tree, and there is room for what is found.
 pub record PrepareIn (driver delay first next : List ℕ) (early late : List ℤ) (stages layers : ℕ) (arrival : ℤ) : Type 0 where
   pub tree : StageTree
-  pub delayed : Delayed tree driver delay stages layers arrival
+  pub windows : WindowsIn tree driver delay stages layers arrival
   pub firsts : stages ≤ length first
   pub nexts : stages ≤ length next
   pub earlies : stages ≤ length early
@@ -29,14 +29,15 @@ pub record Prepared (driver first next delay : List ℕ) (early late : List ℤ)
   pub linked : Linked driver first next stages
   pub earlies : stages ≤ length early
   pub lates : stages ≤ length late
-  pub opened : (T : StageTree) → Delayed T driver delay stages layers arrival → Opened T early late (T .stages)
+  pub opened : (T : StageTree) → WindowsIn T driver delay stages layers arrival → Opened T early late
 
 pub prepared-same : {driver first next delay : List ℕ} {early late : List ℤ} {stages layers : ℕ} {arrival a : ℤ} → a ≡ arrival
     → Prepared driver first next delay early late stages layers arrival → Prepared driver first next delay early late stages layers a
 prepared-same e P = rw e P
 
 -- value_at: the slices hold some tree, and the table has room for its rows.
-pub record RoundIn (table : List ℤ) (driver delay : List ℕ) (limit : List ℤ) (cost starts ends : List ℕ) (stages layers : ℕ) (arrival : ℤ) (g width : ℕ) : Type 0 where
+pub record RoundIn (table : List ℤ) (driver delay : List ℕ) (limit : List ℤ) (cost starts ends : List ℕ) (stages layers : ℕ) (arrival : ℤ)
+    (g width : ℕ) : Type 0 where
   pub tree : StageTree
   pub numbers : Numbers tree driver delay limit cost stages layers arrival
   pub sized : (stages + 2) * width ≤ length table
@@ -50,7 +51,7 @@ pub record Round (T : StageTree) (k width : ℕ) (table : List ℤ) (starts ends
   -- the times that are asked of each stage
   pub asked : ℕ → ℤ → Bool
   pub at-arrival : asked 0 (T .arrival) ≡ true
-  pub filled : Filled T k asked width table starts ends
+  pub filled : BandsFilled T k asked width table starts ends
   pub starts-long : T .stages ≤ length starts
   pub ends-long : T .stages ≤ length ends
   pub order : (j : ℕ) → j < T .stages → getD starts j 0 ≤ getD ends j 0
@@ -68,8 +69,8 @@ pub record Known (T : StageTree) (k stages : ℕ) (known : List ℕ) (bound : �
   pub bound-is : bound ≡ planRounded T k (planIn stages known)
 
 -- plan_at: the slices hold some tree, a plan of it is known, and the table has the columns.
-pub record PlanAtIn (table : List ℤ) (driver delay : List ℕ) (limit : List ℤ) (cost : List ℕ) (stages layers : ℕ) (arrival : ℤ) (g columns bound : ℕ) (known : List ℕ)
-    : Type 0 where
+pub record PlanAtIn (table : List ℤ) (driver delay : List ℕ) (limit : List ℤ) (cost : List ℕ) (stages layers : ℕ) (arrival : ℤ) (g columns bound : ℕ)
+    (known : List ℕ) : Type 0 where
   pub tree : StageTree
   pub numbers : Numbers tree driver delay limit cost stages layers arrival
   pub k : ℕ

@@ -2,10 +2,14 @@
 // round, once for each call.
 use bands::lesser;
 use fanout::link;
-use readoff::first_column;
+use readoff::least_column;
 use readoff::read_plan;
 use rounding::excess_costs;
 use rows::fill_rows;
+use rules::MAX_STAGES;
+use slices::STAGE_ENTRIES;
+use slices::Sizes;
+use slices::Tree;
 use windows::windows;
 ghost use mathlib.Core.Path.{_≡_};
 ghost use Prim.Native.Nat.{ℕ, _^_, _≤_};
@@ -21,20 +25,18 @@ pub const MAX_GRAIN: u64 = 268_435_456;
 pub fn prepare(
     driver: &[usize],
     delay: &[u64],
-    stages: usize,
-    layers: usize,
-    arrival: i64,
+    n: Tree,
     first: &mut [usize],
     next: &mut [usize],
     early: &mut [i64],
     late: &mut [i64],
 )
-    requires { ⌜ PrepareIn (now driver) (now delay) (now first) (now next) (now early) (now late) stages layers arrival ⌝ }
+    requires { ⌜ PrepareIn (now driver) (now delay) (now first) (now next) (now early) (now late) (n .stages) (n .layers) (n .arrival) ⌝ }
     ensures { λ _. ⌜ Prepared (now (driver .entry)) (now (first .exit)) (now (next .exit)) (now (delay .entry)) (now (early .exit)) (now (late .exit))
-        stages layers arrival ⌝ }
+        (n .stages) (n .layers) (n .arrival) ⌝ }
 {
-    link(driver, stages, first, next);
-    windows(driver, delay, stages, layers, arrival, early, late);
+    link(driver, n.stages, first, next);
+    windows(driver, delay, n, early, late);
 }
 
 // The bands at the grain g, and V(k) read off the first; `width` if it does not fit.
@@ -73,14 +75,16 @@ fn value_at(
         late,
         starts,
         ends,
-        stages,
-        layers,
-        g,
-        width,
+        Sizes {
+            stages,
+            layers,
+            width,
+            grain: g,
+        },
     );
     let start = starts[0];
     let end = ends[0];
-    first_column(table, 0, start, end, width, arrival)
+    least_column(table, 0, start, end, width, arrival)
 }
 
 // Whether some plan meets timing, and if so one that does, into the first bytes of `known`: at the largest grain every rounded cost is 0, so one column is
@@ -104,9 +108,9 @@ pub fn feasible(
     ensures { λ r. ⌜ ((T : StageTree) → Numbers T (now (driver .entry)) (now (delay .entry)) (now (limit .entry)) (now (cost .entry)) stages layers arrival
         → Feasible T stages (now (known .exit)) r) ⌝ }
 {
-    let mut table = [0i64; 66];
-    let mut starts = [0usize; 64];
-    let mut ends = [0usize; 64];
+    let mut table = [0i64; MAX_STAGES + 2];
+    let mut starts = [0usize; MAX_STAGES];
+    let mut ends = [0usize; MAX_STAGES];
     let least = value_at(
         &mut table,
         driver,
@@ -128,7 +132,7 @@ pub fn feasible(
     if least != 0 {
         return false;
     }
-    let mut times = [0i64; 64];
+    let mut times = [0i64; MAX_STAGES];
     read_plan(
         &table,
         driver,
@@ -139,10 +143,12 @@ pub fn feasible(
         cost,
         &starts,
         &ends,
-        stages,
-        layers,
-        1,
-        MAX_GRAIN,
+        Sizes {
+            stages,
+            layers,
+            width: 1,
+            grain: MAX_GRAIN,
+        },
         arrival,
         &mut times,
         known,
@@ -175,14 +181,14 @@ pub fn plan_at(
     ensures { λ r. ⌜ ((T : StageTree) (k : ℕ) → Numbers T (now (driver .entry)) (now (delay .entry)) (now (limit .entry)) (now (cost .entry)) stages layers arrival
         → g ≡ 2 ^ k → Known T k stages (now (known .entry)) bound → PlanAt T k columns stages (now (known .exit)) r) ⌝ }
 {
-    let mut excess = [0u64; 1024];
+    let mut excess = [0u64; STAGE_ENTRIES];
     let base = excess_costs(cost, stages, layers, g, &mut excess);
     if columns <= base {
         return columns;
     }
     let width = lesser(columns, bound + 1) - base;
-    let mut starts = [0usize; 64];
-    let mut ends = [0usize; 64];
+    let mut starts = [0usize; MAX_STAGES];
+    let mut ends = [0usize; MAX_STAGES];
     let spent = value_at(
         table,
         driver,
@@ -204,7 +210,7 @@ pub fn plan_at(
     if spent == width {
         return columns;
     }
-    let mut times = [0i64; 64];
+    let mut times = [0i64; MAX_STAGES];
     read_plan(
         table,
         driver,
@@ -215,10 +221,12 @@ pub fn plan_at(
         &excess,
         &starts,
         &ends,
-        stages,
-        layers,
-        width,
-        1,
+        Sizes {
+            stages,
+            layers,
+            width,
+            grain: 1,
+        },
         arrival,
         &mut times,
         known,

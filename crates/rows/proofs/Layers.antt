@@ -6,34 +6,53 @@ use mathlib.Core.Logic.{inl, inr}
 use Prim.Native.Nat.{ℕ, suc, _+_, _-_, _*_, _/_, _^_, _≤_, _<_, min}
 use native.Mathlib.Omega.{arith}
 use native.Mathlib.Decide.{decLe}
-use lib.ListN.{length, getD}
+use lib.ListN.{length}
 use lib.IntN.{ℤ, pos, _-ℤ_}
 use lib.Signed.{leZ, ltZ}
 use Rattle.laws.specs.Integers.{le-true, le-false, false-le, lt-true}
+use Rattle.rules.specs.Bytes.{maxLayers}
 use Rattle.oracle.specs.Stages.{StageTree}
 use Rattle.oracle.specs.Programme.{leastOn}
 use Rattle.oracle.specs.Timing.{lateCount, charge}
 use Rattle.oracle.specs.Band.{Band, SpentBand, limit-late, band-entries, marks-more, marks-agree, marks-spend}
-use Rattle.bands.specs.Entries.{rowAt, overDelay, maxEntry, mergedLow, never, never-range, InRange, BandIn, row-ends, row-unmerged}
+use Rattle.slices.specs.Laid.{Laid, onLayer, limitOn, timeAt, maxEntry, delay-in-range}
+use Rattle.bands.specs.Entries.{rowAt, overDelay, mergedLow, never, never-range, InRange, BandIn, row-ends, row-unmerged}
 use Rattle.bands.specs.Contracts.{SpendIn, Spent, Widened}
-use Rattle.branches.specs.Slices.{place}
 use Rattle.branches.specs.Contracts.{BranchesIn, Joined}
-use Rattle.rows.specs.Contracts.{LayerIn, Layered, timeAt, askedIn, Represents}
+use Rattle.rows.specs.Contracts.{LayerIn, Layered, askedIn, Represents}
 use Rattle.rows.proofs.Meaning.{besides, asked-from, own-limit, joined-band}
 
-layer-cost : (T : StageTree) (k width i l : ℕ) (t : ℤ) (c : ℕ) → c ≡ T .cost i l / 2 ^ k → c + besides T k width i l t ≡ leastOn T (charge T k (width - 1)) i l t
+-- Each limit is in its range.
+limit-in-range : {T : StageTree} {driver delay : List ℕ} {limit : List ℤ} {cost : List ℕ} → Laid T driver delay limit cost
+    → (i l : ℕ) → i < T .stages → l < T .layers → InRange maxEntry (limitOn limit i l)
+limit-in-range L i l a b = let (u, d) = L .limit-most i l a b in rw (L .limit-at i l a b) (record { above = u; below = d })
+
+-- A layer's rounded cost and what it asks besides are what the recursion charges for it.
+layer-cost : (T : StageTree) (k width i l : ℕ) (t : ℤ) (c : ℕ) → c ≡ T .cost i l / 2 ^ k
+    → c + besides T k width i l t ≡ leastOn T (charge T k (width - 1)) i l t
 layer-cost T k width i l t c e = omega arith
 
 module _ {table : List ℤ} {driver first next delay : List ℕ} {limit : List ℤ} {cost starts ends : List ℕ} {stages layers g width i l top : ℕ}
     (I : LayerIn table driver first next delay limit cost starts ends stages layers g width i l top) where
   abbrev c : ℕ
-  c = getD cost (place i l) 0 / g
+  c = onLayer cost i l / g
 
-  pub layer-sizes : (place i l < length cost) × (place i l < length limit) × (i * width + width ≤ stages * width) × (stages * width + (width + width) ≤ length table)
+  -- The stage and the layer are of the tree that the slices hold.
+  in-tree : i < I .asks .rows .tree .stages
+  in-tree = omega (arith, I .asks .rows .stages-are, I .asks .stage)
+
+  on-layer : l < I .asks .rows .tree .layers
+  on-layer = omega (arith, I .asks .rows .layers-are, I .inside)
+
+  few-layers : l < maxLayers
+  few-layers = omega (arith, on-layer, I .asks .rows .laid .delays .few-layers)
+
+  pub layer-sizes : (i * maxLayers + l < length cost) × (i * maxLayers + l < length limit)
+      × (i * width + width ≤ stages * width) × (stages * width + (width + width) ≤ length table)
   layer-sizes =
       let W = I .asks .rows in (
-        omega (arith, W .slices .costs, W .slices .few-layers, I .asks .stage, I .inside),
-        omega (arith, W .slices .limits, W .slices .few-layers, I .asks .stage, I .inside),
+        omega (arith, W .laid .costs .cost-long, few-layers, in-tree),
+        omega (arith, W .laid .limit-long, few-layers, in-tree),
         row-ends width i stages (I .asks .stage),
         omega (arith, W .sized),
       )
@@ -47,16 +66,16 @@ module _ {table : List ℤ} {driver first next delay : List ℕ} {limit : List �
     linked = W .linked;
     starts-long = W .starts-long;
     ends-long = W .ends-long;
-    delays = λ j a b. omega (arith, W .slices .delays, W .slices .few-layers, I .inside);
+    delays = λ j a b. omega (arith, W .laid .delays .delay-long, W .stages-are, few-layers);
     limits = layer-sizes .1;
-    delay-range = λ j a b. W .slices .delay-range j l (omega arith) b (I .inside);
-    limit-range = W .slices .limit-range i l (I .asks .stage) (I .inside);
+    delay-range = λ j a b. delay-in-range (W .laid .delays) j l (omega arith) (omega (arith, W .stages-are)) on-layer;
+    limit-range = limit-in-range (W .laid) i l in-tree on-layer;
     bands = I .asks .finished;
   }
 
   rounded-is : {T : StageTree} {k : ℕ} {early late : List ℤ} → Represents T k early late driver delay limit cost stages layers g width → c ≡ T .cost i l / 2 ^ k
   rounded-is {T} S =
-      let cost-is = S .laid .cost-is i l (omega (arith, S .stages-are, I .asks .stage)) (omega (arith, S .layers-are, I .inside)) in
+      let cost-is = S .laid .costs .cost-at i l (omega (arith, S .stages-are, I .asks .stage)) (omega (arith, S .layers-are, I .inside)) in
       ap (λ n. n / g) cost-is ∙ ap (λ n. T .cost i l / n) (S .grain-is)
 
   -- A layer that is charged more than every budget, at every time asked, changes nothing.
@@ -77,13 +96,13 @@ module _ {table : List ℤ} {driver first next delay : List ℕ} {limit : List �
   layer-dear dear = unchanged (λ T k early late S ef t q. let r = rounded-is S in omega arith)
 
   -- .. or its limit is before every time asked.
-  pub layer-late : {from to own from′ : ℤ} → own ≡ getD limit (place i l) (pos 0) → from′ ≡ from → ltZ own from′ ≡ true
+  pub layer-late : {from to own from′ : ℤ} → own ≡ limitOn limit i l → from′ ≡ from → ltZ own from′ ≡ true
       → Layered table table driver delay limit cost starts ends stages layers g width i l from to top top
   layer-late {from} {to} {own} {from′} e p n = unchanged (λ T k early late S ef t q.
       let a = le-true (timeAt early i) t (asked-from early late i t q) in
-      let b = le-false (timeAt early i) (getD limit (place i l) (pos 0)) (rw (e, p ∙ ef) at (lt-true own from′ n)) in
-      let d = limit-late (askedIn early late i) (width - 1) (getD limit (place i l) (pos 0)) (λ t. suc (width - 1) * lateCount (T .limits i l) t)
-      (own-limit S (I .asks .stage) (I .inside)) t q (false-le t (getD limit (place i l) (pos 0)) (omega arith)) in
+      let b = le-false (timeAt early i) (limitOn limit i l) (rw (e, p ∙ ef) at (lt-true own from′ n)) in
+      let d = limit-late (askedIn early late i) (width - 1) (limitOn limit i l) (λ t. suc (width - 1) * lateCount (T .limits i l) t)
+      (own-limit S (I .asks .stage) (I .inside)) t q (false-le t (limitOn limit i l) (omega arith)) in
       omega arith)
 
   -- A layer: its bands are merged in `joined`, the row is widened in `wide`.

@@ -10,26 +10,45 @@ use Rattle.laws.specs.Passing.{leastUpTo}
 use Rattle.oracle.specs.Stages.{StageTree}
 use Rattle.oracle.specs.Timing.{leastAt}
 use Rattle.oracle.specs.Band.{Marks, band-entries, band-agree, band-raised}
-use Rattle.bands.specs.Entries.{rowAt, maxEntry, InRange, BandIn, row-ends, row-outside, row-unmerged}
+use Rattle.slices.specs.Laid.{maxEntry, timeAt}
+use Rattle.bands.specs.Entries.{rowAt, InRange, BandIn, row-ends, row-outside, row-unmerged}
 use Rattle.bands.specs.Contracts.{RaiseIn, RaisedRow, Cut}
-use Rattle.rows.specs.Contracts.{StageIn, LayerIn, Layered, RowKept, timeAt, askedIn, BandsFrom, Represents, StageRow}
-use Rattle.rows.proofs.Meaning.{onLayer, asked-from, asked-to, all-layers}
+use Rattle.rows.specs.Contracts.{RowsIn, StageRowIn, LayerIn, Layered, RowKept, askedIn, BandsFrom, Represents, StageRow}
+use Rattle.rows.proofs.Meaning.{asksOn, asked-from, asked-to, all-layers}
+
+-- A call can be made again with slices that are as long.
+pub rows-again : {table table′ : List ℤ} {driver first next delay : List ℕ} {limit : List ℤ} {cost starts ends starts′ ends′ : List ℕ}
+    {stages layers g width : ℕ} → RowsIn table driver first next delay limit cost starts ends stages layers g width
+    → length table′ ≡ length table → length starts′ ≡ length starts → length ends′ ≡ length ends
+    → RowsIn table′ driver first next delay limit cost starts′ ends′ stages layers g width
+rows-again I t s e = record {
+  tree = I .tree;
+  laid = I .laid;
+  stages-are = I .stages-are;
+  layers-are = I .layers-are;
+  linked = I .linked;
+  sized = omega (arith, I .sized);
+  starts-long = omega (arith, I .starts-long);
+  ends-long = omega (arith, I .ends-long);
+  columns = I .columns;
+  grain = I .grain;
+}
 
 -- The loop begins with table `before`. In `table` the row of stage i is made of the layers before l, in the columns before `top`.
 pub record Layering (before : List ℤ) (driver first next delay : List ℕ) (limit : List ℤ) (cost starts ends : List ℕ) (stages layers g width i : ℕ) (from to : ℤ)
     (table : List ℤ) (top l : ℕ) : Type 0 where
-  pub asks : StageIn before driver first next delay limit cost starts ends stages layers g width i
+  pub asks : StageRowIn before driver first next delay limit cost starts ends stages layers g width i
   pub most : l ≤ layers
   pub fits : top ≤ width
   pub kept : RowKept before table stages width i
   pub range : BandIn maxEntry table (i * width) 0 top
   pub marks : (T : StageTree) (k : ℕ) (early late : List ℤ) → Represents T k early late driver delay limit cost stages layers g width
       → from ≡ timeAt early i → to ≡ timeAt late i → BandsFrom T k early late before starts ends width (suc i)
-      → Marks (askedIn early late i) (width - 1) (rowAt table (i * width)) 0 top (λ t. leastUpTo (suc (width - 1)) (onLayer T k width i t) l)
+      → Marks (askedIn early late i) (width - 1) (rowAt table (i * width)) 0 top (λ t. leastUpTo (suc (width - 1)) (asksOn T k width i t) l)
 
 module _ {before : List ℤ} {driver first next delay : List ℕ} {limit : List ℤ} {cost starts ends : List ℕ} {stages layers g width i : ℕ} {from to : ℤ} where
   -- Before the first layer.
-  pub layer-start : StageIn before driver first next delay limit cost starts ends stages layers g width i
+  pub layer-start : StageRowIn before driver first next delay limit cost starts ends stages layers g width i
       → Layering before driver first next delay limit cost starts ends stages layers g width i from to before 0 0
   layer-start I = record {
     asks = I;
@@ -45,18 +64,10 @@ module _ {before : List ℤ} {driver first next delay : List ℕ} {limit : List 
     later : (j w : ℕ) → i < j → j < stages → w < width → rowAt table (j * width) w ≡ rowAt before (j * width) w
     later j w a c h = L .kept .others (j * width + w) (row-outside width i j w a h) (row-unmerged width stages j w c h)
 
-    pub layer-in : l < layers → LayerIn table driver first next delay limit cost starts ends stages layers g width i l top
-    layer-in h = let W = L .asks .rows in record {
+    pub layer-asks : l < layers → LayerIn table driver first next delay limit cost starts ends stages layers g width i l top
+    layer-asks h = record {
       asks = record {
-        rows = record {
-          slices = W .slices;
-          linked = W .linked;
-          sized = omega (arith, W .sized, L .kept .long);
-          starts-long = W .starts-long;
-          ends-long = W .ends-long;
-          columns = W .columns;
-          grain = W .grain;
-        };
+        rows = rows-again (L .asks .rows) (L .kept .long) refl refl;
         stage = L .asks .stage;
         finished = λ j a c. let O = L .asks .finished j a c in record {
           order = O .order;
@@ -84,7 +95,7 @@ module _ {before : List ℤ} {driver first next delay : List ℕ} {limit : List 
           let O = L .asks .finished j a (omega (arith, S .stages-are)) in
           band-entries (askedIn early late j) (width - 1) (rowAt before (j * width)) (rowAt table (j * width)) (getD starts j 0) (getD ends j 0) (leastAt T k (width - 1) j)
           (λ w u v. later j w a (omega (arith, S .stages-are)) (omega (arith, O .most))) (D j a b) in
-          rw (add-one l) (P .marks T k early late S (p ∙ ef) (q ∙ el) now (λ t. leastUpTo (suc (width - 1)) (onLayer T k width i t) l) (L .marks T k early late S ef el D));
+          rw (add-one l) (P .marks T k early late S (p ∙ ef) (q ∙ el) now (λ t. leastUpTo (suc (width - 1)) (asksOn T k width i t) l) (L .marks T k early late S ef el D));
     }
 
     -- After the last layer the row is raised ..
@@ -110,7 +121,7 @@ module _ {before : List ℤ} {driver first next delay : List ℕ} {limit : List 
       most = omega (arith, C .most, L .fits);
       range = λ w a k. R .range w (omega arith) (omega (arith, C .most));
       band = λ T k early late S ef el D.
-          let whole : ℤ → ℕ = λ t. leastUpTo (suc (width - 1)) (onLayer T k width i t) l in
+          let whole : ℤ → ℕ = λ t. leastUpTo (suc (width - 1)) (asksOn T k width i t) l in
           let raised = band-raised (askedIn early late i) (width - 1) (rowAt table (i * width)) (rowAt after (i * width)) 0 top whole (L .marks T k early late S ef el D)
           (R .raised) (omega arith) (omega (arith, L .fits, L .asks .rows .columns)) in
           band-agree (askedIn early late i) (width - 1) (rowAt after (i * width)) start end whole (leastAt T k (width - 1) i)

@@ -11,9 +11,11 @@ use Rattle.laws.specs.Booleans.{same-or}
 use Rattle.oracle.specs.Stages.{StageTree}
 use Rattle.oracle.specs.Timing.{leastAt}
 use Rattle.oracle.specs.Band.{Band, band-entries}
-use Rattle.bands.specs.Entries.{rowAt, maxEntry, InRange, row-ends, row-outside, row-unmerged}
+use Rattle.slices.specs.Laid.{maxEntry, timeAt}
+use Rattle.bands.specs.Entries.{rowAt, InRange, row-ends, row-outside, row-unmerged}
 use Rattle.branches.specs.Contracts.{BandOf}
-use Rattle.rows.specs.Contracts.{RowsIn, FinishedFrom, StageIn, timeAt, askedIn, BandsFrom, Represents, StageRow, AllRows}
+use Rattle.rows.specs.Contracts.{RowsIn, FinishedFrom, StageRowIn, askedIn, BandsFrom, Represents, StageRow, AllRows}
+use Rattle.rows.proofs.Stages.{rows-again}
 
 pub record RowsFrom (before : List ℤ) (driver delay : List ℕ) (limit : List ℤ) (cost : List ℕ) (early late : List ℤ) (starts₀ ends₀ : List ℕ)
     (stages layers g width : ℕ) (table : List ℤ) (starts ends : List ℕ) (i : ℕ) : Type 0 where
@@ -39,17 +41,9 @@ module _ {before : List ℤ} {driver delay : List ℕ} {limit : List ℤ} {cost 
 
   module _ {first next : List ℕ} {table : List ℤ} {starts ends : List ℕ} {i : ℕ} (I : RowsIn before driver first next delay limit cost starts₀ ends₀ stages layers g width)
       (R : RowsFrom before driver delay limit cost early late starts₀ ends₀ stages layers g width table starts ends i) where
-    pub stage-in : 0 < i → StageIn table driver first next delay limit cost starts ends stages layers g width (i - 1)
-    stage-in h = record {
-      rows = record {
-        slices = I .slices;
-        linked = I .linked;
-        sized = omega (arith, I .sized, R .long);
-        starts-long = omega (arith, I .starts-long, R .starts-long);
-        ends-long = omega (arith, I .ends-long, R .ends-long);
-        columns = I .columns;
-        grain = I .grain;
-      };
+    pub stage-asks : 0 < i → StageRowIn table driver first next delay limit cost starts ends stages layers g width (i - 1)
+    stage-asks h = record {
+      rows = rows-again I (R .long) (R .starts-long) (R .ends-long);
       stage = omega (arith, R .most);
       finished = λ j a b. R .range j (omega arith) b;
     }

@@ -13,13 +13,16 @@ use Rattle.oracle.specs.Timing.{charge, leastAt}
 use Rattle.oracle.specs.Band.{Band, Marks}
 use Rattle.oracle.specs.Windows.{Windows}
 use Rattle.fanout.specs.Contracts.{Linked}
-use Rattle.bands.specs.Entries.{rowAt, Outside, maxEntry, never, noLimit, BandIn}
-use Rattle.branches.specs.Slices.{Slices, Laid}
+use Rattle.slices.specs.Laid.{Laid, maxEntry, noLimit, timeAt}
+use Rattle.bands.specs.Entries.{rowAt, Outside, never, BandIn}
 use Rattle.branches.specs.Contracts.{BandOf}
 
--- stage_row and fill_rows: the table has a row for each stage and the two merging rows; g is the grain.
+-- stage_row and fill_rows: the slices hold some tree, and the table has a row for each of its stages and the two merging rows; g is the grain.
 pub record RowsIn (table : List ℤ) (driver first next delay : List ℕ) (limit : List ℤ) (cost starts ends : List ℕ) (stages layers g width : ℕ) : Type 0 where
-  pub slices : Slices driver delay limit cost stages layers
+  pub tree : StageTree
+  pub laid : Laid tree driver delay limit cost
+  pub stages-are : stages ≡ tree .stages
+  pub layers-are : layers ≡ tree .layers
   pub linked : Linked driver first next stages
   pub sized : (stages + 2) * width ≤ length table
   pub starts-long : stages ≤ length starts
@@ -32,15 +35,12 @@ abbrev pub FinishedFrom : List ℤ → (starts ends : List ℕ) (stages width i 
 FinishedFrom table starts ends stages width i = (j : ℕ) → i ≤ j → j < stages → BandOf table starts ends width j
 
 -- stage_row asks that besides for a stage whose later stages have finished bands.
-pub record StageIn (table : List ℤ) (driver first next delay : List ℕ) (limit : List ℤ) (cost starts ends : List ℕ) (stages layers g width i : ℕ) : Type 0 where
+pub record StageRowIn (table : List ℤ) (driver first next delay : List ℕ) (limit : List ℤ) (cost starts ends : List ℕ) (stages layers g width i : ℕ) : Type 0 where
   pub rows : RowsIn table driver first next delay limit cost starts ends stages layers g width
   pub stage : i < stages
   pub finished : FinishedFrom table starts ends stages width (suc i)
 
--- The earliest and the latest time of stage j in a slice, and the times between.
-abbrev pub timeAt : List ℤ → ℕ → ℤ
-timeAt times j = getD times j (pos 0)
-
+-- The times from the earliest to the latest of stage j.
 abbrev pub askedIn : (early late : List ℤ) → ℕ → ℤ → Bool
 askedIn early late j t = withinZ (timeAt early j) (timeAt late j) t
 
@@ -68,7 +68,7 @@ pub record RowKept (before after : List ℤ) (stages width i : ℕ) : Type 0 whe
 
 -- layer: row i holds the best of some layers in its columns before `top`.
 pub record LayerIn (table : List ℤ) (driver first next delay : List ℕ) (limit : List ℤ) (cost starts ends : List ℕ) (stages layers g width i l top : ℕ) : Type 0 where
-  pub asks : StageIn table driver first next delay limit cost starts ends stages layers g width i
+  pub asks : StageRowIn table driver first next delay limit cost starts ends stages layers g width i
   pub inside : l < layers
   pub fits : top ≤ width
   pub range : BandIn maxEntry table (i * width) 0 top

@@ -7,9 +7,10 @@ use bands::spend;
 use bands::widen;
 use branches::branches;
 use rules::MAX_LAYERS;
+use slices::Sizes;
 ghost use Prim.Native.Nat.{_≤_};
 ghost use lib.ListN.{length};
-ghost use Rattle.rows.specs.Contracts.{LayerIn, Layered, StageIn, StageRow, RowsIn, AllRows};
+ghost use Rattle.rows.specs.Contracts.{LayerIn, Layered, StageRowIn, StageRow, RowsIn, AllRows};
 
 // Row `i`, filled before column `top`, becomes the better of itself and what layer `l` gives at its rounded cost. A layer that costs more than every budget,
 // or whose limit is before every time asked, gives nothing. Gives the end of the columns that are filled.
@@ -23,10 +24,7 @@ fn layer(
     cost: &[u64],
     starts: &[usize],
     ends: &[usize],
-    stages: usize,
-    layers: usize,
-    g: u64,
-    width: usize,
+    n: Sizes,
     i: usize,
     l: usize,
     early: i64,
@@ -34,12 +32,13 @@ fn layer(
     top: usize,
 ) -> usize
     requires { ⌜ LayerIn (now table) (now driver) (now first) (now next) (now delay) (now limit) (now cost) (now starts) (now ends)
-        stages layers g width i l top ⌝ }
+        (n .stages) (n .layers) (n .grain) (n .width) i l top ⌝ }
     ensures { λ r. ⌜ Layered (now (table .entry)) (now (table .exit)) (now (driver .entry)) (now (delay .entry)) (now (limit .entry))
-        (now (cost .entry)) (now (starts .entry)) (now (ends .entry)) stages layers g width i l early late top r ⌝ }
+        (now (cost .entry)) (now (starts .entry)) (now (ends .entry)) (n .stages) (n .layers) (n .grain) (n .width) i l early late top r ⌝ }
 {
     let at = i * MAX_LAYERS + l;
-    let c = (cost[at] / g) as usize;
+    let width = n.width;
+    let c = (cost[at] / n.grain) as usize;
     if width <= c {
         return top;
     }
@@ -56,8 +55,7 @@ fn layer(
         limit,
         starts,
         ends,
-        stages,
-        width,
+        n,
         width - c,
         i,
         l,
@@ -65,7 +63,7 @@ fn layer(
     );
     let row = i * width;
     let wide = widen(table, row, top, c + part.end);
-    spend(table, part.row, row, part.start, part.end, c, part.delay);
+    spend(table, part, row, c);
     wide
 }
 
@@ -80,22 +78,19 @@ fn stage_row(
     cost: &[u64],
     starts: &[usize],
     ends: &[usize],
-    stages: usize,
-    layers: usize,
-    g: u64,
-    width: usize,
+    n: Sizes,
     i: usize,
     early: i64,
     late: i64,
 ) -> Span
-    requires { ⌜ StageIn (now table) (now driver) (now first) (now next) (now delay) (now limit) (now cost) (now starts) (now ends)
-        stages layers g width i ⌝ }
+    requires { ⌜ StageRowIn (now table) (now driver) (now first) (now next) (now delay) (now limit) (now cost) (now starts) (now ends)
+        (n .stages) (n .layers) (n .grain) (n .width) i ⌝ }
     ensures { λ r. ⌜ StageRow (now (table .entry)) (now (table .exit)) (now (driver .entry)) (now (delay .entry)) (now (limit .entry))
-        (now (cost .entry)) (now (starts .entry)) (now (ends .entry)) stages layers g width i early late (r .start) (r .end) ⌝ }
+        (now (cost .entry)) (now (starts .entry)) (now (ends .entry)) (n .stages) (n .layers) (n .grain) (n .width) i early late (r .start) (r .end) ⌝ }
 {
     let mut top = 0;
     let mut l = 0;
-    while l < layers {
+    while l < n.layers {
         top = layer(
             table,
             driver,
@@ -106,10 +101,7 @@ fn stage_row(
             cost,
             starts,
             ends,
-            stages,
-            layers,
-            g,
-            width,
+            n,
             i,
             l,
             early,
@@ -118,7 +110,7 @@ fn stage_row(
         );
         l += 1;
     }
-    let row = i * width;
+    let row = i * n.width;
     raise(table, row, top);
     cut(table, row, top, early, late)
 }
@@ -136,18 +128,15 @@ pub fn fill_rows(
     late: &[i64],
     starts: &mut [usize],
     ends: &mut [usize],
-    stages: usize,
-    layers: usize,
-    g: u64,
-    width: usize,
+    n: Sizes,
 )
-    requires { ⌜ RowsIn (now table) (now driver) (now first) (now next) (now delay) (now limit) (now cost) (now starts) (now ends) stages layers g width
-        × (stages ≤ length (now early)) × (stages ≤ length (now late)) ⌝ }
+    requires { ⌜ RowsIn (now table) (now driver) (now first) (now next) (now delay) (now limit) (now cost) (now starts) (now ends)
+        (n .stages) (n .layers) (n .grain) (n .width) × (n .stages ≤ length (now early)) × (n .stages ≤ length (now late)) ⌝ }
     ensures { λ _. ⌜ AllRows (now (table .entry)) (now (table .exit)) (now (driver .entry)) (now (delay .entry)) (now (limit .entry))
         (now (cost .entry)) (now (early .entry)) (now (late .entry)) (now (starts .entry)) (now (ends .entry)) (now (starts .exit)) (now (ends .exit))
-        stages layers g width ⌝ }
+        (n .stages) (n .layers) (n .grain) (n .width) ⌝ }
 {
-    let mut i = stages;
+    let mut i = n.stages;
     while 0 < i {
         i -= 1;
         let from = early[i];
@@ -162,10 +151,7 @@ pub fn fill_rows(
             cost,
             starts,
             ends,
-            stages,
-            layers,
-            g,
-            width,
+            n,
             i,
             from,
             to,

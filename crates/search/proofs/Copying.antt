@@ -13,22 +13,23 @@ pub record Copied (known before plan : List ℕ) (stages n : ℕ) : Type 0 where
   pub long : length plan ≡ length before
 
 module _ {known before : List ℕ} {stages : ℕ} where
-  pub copied-start : Copied known before before stages 0
-  copied-start = record { inside = omega arith; is = refl; long = refl }
+  pub plan-copied-start : Copied known before before stages 0
+  plan-copied-start = record { inside = omega arith; is = refl; long = refl }
 
-  pub copied-more : {plan : List ℕ} {n : ℕ} → Copied known before plan stages n → n < stages → stages ≤ length known → stages ≤ length before
+  pub plan-copied-more : {plan : List ℕ} {n : ℕ} → Copied known before plan stages n → n < stages → stages ≤ length known → stages ≤ length before
       → Copied known before (set plan n (getD known n 0)) stages (n + 1)
-  copied-more {plan} {n} C h a b =
+  plan-copied-more {plan} {n} C h a b =
       let z : n + 1 ≡ suc n = omega arith in
       record {
         inside = omega arith;
         is = rw z (
             ap (λ p. set p n (getD known n 0)) (C .is ∙ ap (λ r. take n known ++ r) (drop-cons before n 0 (omega arith)))
             ∙ set-at (take n known) (getD before n 0) (drop (suc n) before) (getD known n 0) n (length-take-le n known (omega arith))
-            ∙ sym (ap (λ f. f ++ drop (suc n) before) (take-suc known n 0 (omega arith)) ∙ append-assoc (take n known) (getD known n 0 ∷ []) (drop (suc n) before))
+            ∙ sym (ap (λ f. f ++ drop (suc n) before) (take-suc known n 0 (omega arith))
+            ∙ append-assoc (take n known) (getD known n 0 ∷ []) (drop (suc n) before))
             );
         long = length-set plan n (getD known n 0) ∙ C .long;
       }
 
-  pub copied-end : {plan : List ℕ} {n : ℕ} → Copied known before plan stages n → stages ≤ n → plan ≡ take stages known ++ drop stages before
-  copied-end {n = n} C h = let e : stages ≡ n = omega (arith, C .inside) in rw e (C .is)
+  pub plan-copied-end : {plan : List ℕ} {n : ℕ} → Copied known before plan stages n → stages ≤ n → plan ≡ take stages known ++ drop stages before
+  plan-copied-end {n = n} C h = let e : stages ≡ n = omega (arith, C .inside) in rw e (C .is)

@@ -18,7 +18,7 @@ use Rattle.rules.specs.Grain.{maxExponent}
 use Rattle.oracle.specs.Stages.{StageTree, planCosts}
 use Rattle.oracle.specs.Rounding.{rounded-below}
 use Rattle.oracle.specs.Value.{planRounded, value, passes, exponent, MeetingPlan, first-meets, value-le, value-zero, value-exponent, exponent-is}
-use Rattle.rounding.specs.Contracts.{Costs, planIn, PlanIn}
+use Rattle.rounding.specs.Contracts.{Costs, planIn, PricedPlan}
 use Rattle.rounds.specs.Problem.{Numbers, Problem}
 use Rattle.rounds.specs.Contracts.{Known, PlanAtIn, PlanAt}
 use Rattle.search.specs.Contracts.{TestIn, DescendIn, GrainFound}
@@ -43,8 +43,8 @@ module _ {T : StageTree} {driver delay : List ℕ} {limit : List ℤ} {cost : Li
       record { most = omega arith; grain-is = refl; none = λ j a b. let e : j ≡ maxExponent = omega arith in rw e (zero-fails z) }
 
   -- The grain times a plan's rounded cost is below the largest grain.
-  pub rounded-small : (k : ℕ) → 2 ^ k * planRounded T k x < 2 ^ maxExponent
-  rounded-small k = omega (arith, rounded-below (2 ^ k) (planCosts T x), P .numbers .cheap x)
+  pub known-small : (k : ℕ) → 2 ^ k * planRounded T k x < 2 ^ maxExponent
+  known-small k = omega (arith, rounded-below (2 ^ k) (planCosts T x), P .numbers .cheap x)
 
   module _ {k g : ℕ} (A : Above T p q (suc k) g) where
     pub grain-halved : g / 2 ≡ 2 ^ k
@@ -54,10 +54,10 @@ module _ {T : StageTree} {driver delay : List ℕ} {limit : List ℤ} {cost : Li
     test-in h = record {
       share = P .share;
       parts = P .parts;
-      few-stages = omega (arith, P .numbers .stages-are, P .numbers .laid .few-stages);
+      few-stages = omega (arith, P .numbers .stages-are, P .numbers .laid .delays .few-stages);
       some-grain = rw grain-halved (pow-pos k);
       grain-most = rw grain-halved (pow-le-pow-right {n = 2} (lit< tt) {i = k} {j = maxExponent} (omega (arith, A .most)));
-      floor-most = rw grain-halved (omega (arith, mul-le-mul-left (2 ^ k) h, rounded-small k));
+      floor-most = rw grain-halved (omega (arith, mul-le-mul-left (2 ^ k) h, known-small k));
     }
 
     -- Not even v qualifies, and V(k) is no more.
@@ -109,7 +109,8 @@ pub record Descending (start : List ℤ) (driver delay : List ℕ) (limit : List
   pub known-long : length known ≡ length first
   pub columns-are : columns ≡ length start / (stages + 2)
   pub above : (T : StageTree) → Problem T driver delay limit cost stages layers arrival p q → MeetingPlan T (planIn stages first) → Above T p q k g
-  pub meets : (T : StageTree) → Problem T driver delay limit cost stages layers arrival p q → MeetingPlan T (planIn stages first) → MeetingPlan T (planIn stages known)
+  pub meets : (T : StageTree) → Problem T driver delay limit cost stages layers arrival p q → MeetingPlan T (planIn stages first)
+      → MeetingPlan T (planIn stages known)
 
 module _ {start : List ℤ} {driver delay : List ℕ} {limit : List ℤ} {cost : List ℕ} {stages layers : ℕ} {arrival : ℤ} {p q : ℕ} {first : List ℕ} where
   pub descending-start : {columns : ℕ} → columns ≡ length start / (stages + 2)
@@ -129,23 +130,22 @@ module _ {start : List ℤ} {driver delay : List ℕ} {limit : List ℤ} {cost :
       halved : (T : StageTree) → Problem T driver delay limit cost stages layers arrival p q → MeetingPlan T (planIn stages first) → g / 2 ≡ 2 ^ (k - 1)
       halved T P M = grain-halved P M (here T P M)
 
-      pub rounding-in : DescendIn driver delay limit cost stages layers arrival p q first → PlanIn cost known stages (g / 2)
+      pub rounding-in : DescendIn driver delay limit cost stages layers arrival p q first → PricedPlan cost known stages (g / 2)
       rounding-in I =
-          let C = costs-of (I .problem .numbers) in
           record {
             tree = I .tree;
-            costs = rw (I .problem .numbers .layers-are) at C;
+            costs = costs-of (I .problem .numbers);
             long = omega (arith, D .known-long, I .long);
             meets = D .meets (I .tree) (I .problem) (I .meets);
             some-grain = rw (halved (I .tree) (I .problem) (I .meets)) (pow-pos (k - 1));
           }
 
       -- `bound` is the rounded cost of the known plan.
-      module _ {bound : ℕ} (B : (T : StageTree) (k : ℕ) → Costs T cost stages (T .layers) → g / 2 ≡ 2 ^ k → MeetingPlan T (planIn stages known)
+      module _ {bound : ℕ} (B : (T : StageTree) (k : ℕ) → Costs T cost stages → g / 2 ≡ 2 ^ k → MeetingPlan T (planIn stages known)
           → bound ≡ planRounded T k (planIn stages known)) where
         b : (T : StageTree) (P : Problem T driver delay limit cost stages layers arrival p q) (M : MeetingPlan T (planIn stages first))
             → bound ≡ planRounded T (k - 1) (planIn stages known)
-        b T P M = B T (k - 1) (rw (P .numbers .layers-are) at (costs-of (P .numbers))) (halved T P M) (D .meets T P M)
+        b T P M = B T (k - 1) (costs-of (P .numbers)) (halved T P M) (D .meets T P M)
 
         pub bound-test : DescendIn driver delay limit cost stages layers arrival p q first → TestIn p q stages (g / 2) bound
         bound-test I =
@@ -208,8 +208,8 @@ module _ {start : List ℤ} {driver delay : List ℕ} {limit : List ℤ} {cost :
                 → GrainFound T p q (length start / (stages + 2)) stages next (k - 1) (g / 2) v
             turn-found t T P M = rw (D .columns-are) at (descent-found P M (here T P M) (found-at T P M) n t)
 
-            pub turn-more : {after : List ℤ} → leb (q * stages * (g / 2 - 1)) (p * (g / 2) * v) ≡ false → length after ≡ length start → length next ≡ length first
-                → Descending start driver delay limit cost stages layers arrival p q first columns after next (k - 1) (g / 2)
+            pub turn-more : {after : List ℤ} → leb (q * stages * (g / 2 - 1)) (p * (g / 2) * v) ≡ false → length after ≡ length start
+                → length next ≡ length first → Descending start driver delay limit cost stages layers arrival p q first columns after next (k - 1) (g / 2)
             turn-more t e f = record {
               long = e;
               known-long = f;

@@ -5,19 +5,21 @@ use mathlib.Core.List.{List}
 use Prim.Native.Nat.{ℕ, _+_, _*_, _^_, _≤_, _<_}
 use lib.ListN.{length}
 use lib.IntN.{ℤ}
+use Rattle.rules.specs.Bytes.{maxStages}
 use Rattle.rules.specs.Grain.{maxExponent}
+use Rattle.rules.specs.Planning.{maxShare}
 use Rattle.oracle.specs.Stages.{StageTree}
 use Rattle.oracle.specs.Value.{value, exponent, firstPlan, MeetingPlan}
 use Rattle.rounding.specs.Contracts.{planIn}
 use Rattle.rounds.specs.Problem.{Problem}
-use Rattle.search.specs.declared.Search.{Search}
-use Rattle.search.specs.declared.Search.the-variants.{Short, Found}
+use Rattle.search.specs.declared.Outcome.{Outcome}
+use Rattle.search.specs.declared.Outcome.the-variants.{Late, Short, Found}
 
 -- qualifies: what keeps the products within 64 bits.
 pub record TestIn (p q stages g v : ℕ) : Type 0 where
-  pub share : p ≤ 1000
-  pub parts : q ≤ 1000
-  pub few-stages : stages ≤ 64
+  pub share : p ≤ maxShare
+  pub parts : q ≤ maxShare
+  pub few-stages : stages ≤ maxStages
   pub some-grain : 0 < g
   pub grain-most : g ≤ 2 ^ maxExponent
   pub floor-most : g * v < 2 ^ maxExponent
@@ -41,6 +43,7 @@ pub record GrainFound (T : StageTree) (p q columns stages : ℕ) (known : List �
   pub fits : v < columns
   pub chosen : firstPlan T k ≡ some (planIn stages known)
 
-abbrev pub Searched : StageTree → ℕ → ℕ → ℕ → ℕ → List ℕ → Search → Type 0
+abbrev pub Searched : StageTree → ℕ → ℕ → ℕ → ℕ → List ℕ → Outcome → Type 0
+Searched T p q columns stages known Late = ⊥
 Searched T p q columns stages known Short = columns < value T (exponent T p q) + 1
 Searched T p q columns stages known (Found k g v) = GrainFound T p q columns stages known k g v

@@ -4,6 +4,8 @@ use rounds::MAX_GRAIN;
 use rounds::feasible;
 use rounds::plan_at;
 use rounds::prepare;
+use rules::MAX_STAGES;
+use slices::Tree;
 ghost use mathlib.Core.Path.{_≡_};
 ghost use mathlib.Core.List.{_++_};
 ghost use Prim.Native.Nat.{_+_, _-_, _*_, _/_, _≤_};
@@ -16,7 +18,7 @@ ghost use Rattle.rounding.specs.Contracts.{planIn};
 ghost use Rattle.rounds.specs.Problem.{Problem};
 ghost use Rattle.rounds.specs.Contracts.{Prepared};
 ghost use Rattle.search.specs.Contracts.{TestIn, DescendIn, Searched};
-ghost use Rattle.search.specs.Planned.{PlanIn, Planned};
+ghost use Rattle.search.specs.Planned.{PlanTreeIn, SearchIn, Explored, Left, Planned};
 
 // The largest k: 2^k is the largest grain.
 const MAX_EXPONENT: usize = 28;
@@ -29,8 +31,9 @@ fn qualifies(p: u64, q: u64, stages: usize, g: u64, v: usize) -> bool
     q * (stages as u64) * (g - 1) <= p * g * (v as u64)
 }
 
-// What the descent finds: the grain 2^k = g and V(k), or that the columns are too few.
-enum Search {
+// What planning a tree gives: no plan meets timing, too few columns, or the grain 2^k = g and V(k).
+pub enum Outcome {
+    Late,
     Short,
     Found { k: usize, g: u64, value: usize },
 }
@@ -53,7 +56,7 @@ fn descend(
     p: u64,
     q: u64,
     known: &mut [u8],
-) -> Search
+) -> Outcome
     requires { ⌜ DescendIn (now driver) (now delay) (now limit) (now cost) stages layers arrival p q (now known) ⌝ }
     requires { ⌜ Prepared (now driver) (now first) (now next) (now delay) (now early) (now late) stages layers arrival ⌝ }
     ensures { λ r. ⌜ ((T : StageTree) → Problem T (now (driver .entry)) (now (delay .entry)) (now (limit .entry)) (now (cost .entry)) stages layers arrival p q
@@ -87,15 +90,15 @@ fn descend(
                 known,
             );
             if v == columns {
-                return Search::Short;
+                return Outcome::Short;
             }
             if qualifies(p, q, stages, g, v) {
-                return Search::Found { k, g, value: v };
+                return Outcome::Found { k, g, value: v };
             }
         }
     }
     // k = 0 always qualifies, so this is not reached.
-    Search::Short
+    Outcome::Short
 }
 
 // Every entry becomes 0.
@@ -121,11 +124,96 @@ fn copy_plan(known: &[u8], stages: usize, plan: &mut [u8])
     }
 }
 
-// What planning a tree gives: no plan meets timing, too few columns, or the grain, its k, and V(k).
-pub enum Outcome {
-    Late,
-    Short,
-    Found { k: usize, g: u64, value: usize },
+// The search over a tree: whether some plan meets timing, and if so the grain and the plan that 01 chooses, into the first bytes of `known`. Where none does
+// the table is not touched.
+fn search_tree(
+    table: &mut [i64],
+    driver: &[usize],
+    delay: &[u64],
+    limit: &[i64],
+    cost: &[u64],
+    stages: usize,
+    layers: usize,
+    arrival: i64,
+    p: u64,
+    q: u64,
+    known: &mut [u8],
+) -> Outcome
+    requires { ⌜ SearchIn (now driver) (now delay) (now limit) (now cost) stages layers arrival p q (now known) ⌝ }
+    ensures { λ r. ⌜ ((T : StageTree) → Problem T (now (driver .entry)) (now (delay .entry)) (now (limit .entry)) (now (cost .entry)) stages layers arrival p q
+        → Explored T p q stages (now (table .entry)) (now (table .exit)) (now (known .exit)) r) ⌝ }
+{
+    let n = Tree {
+        stages,
+        layers,
+        arrival,
+    };
+    let mut first = [0usize; MAX_STAGES];
+    let mut next = [0usize; MAX_STAGES];
+    let mut early = [0i64; MAX_STAGES];
+    let mut late = [0i64; MAX_STAGES];
+    prepare(
+        driver,
+        delay,
+        n,
+        &mut first,
+        &mut next,
+        &mut early,
+        &mut late,
+    );
+    if !feasible(
+        driver,
+        &first,
+        &next,
+        delay,
+        limit,
+        cost,
+        &early,
+        &late,
+        stages,
+        layers,
+        arrival,
+        known,
+    ) {
+        return Outcome::Late;
+    }
+    descend(
+        table,
+        driver,
+        &first,
+        &next,
+        delay,
+        limit,
+        cost,
+        &early,
+        &late,
+        stages,
+        layers,
+        arrival,
+        p,
+        q,
+        known,
+    )
+}
+
+// What is left behind (01, Planning): after 11 table and plan buffer as they were, after 12 the table all zero; if a plan was found the table is all zero, and
+// the plan opens the buffer.
+fn leave(outcome: Outcome, known: &[u8], stages: usize, table: &mut [i64], plan: &mut [u8])
+    requires { ⌜ (stages ≤ length (now known)) × (stages ≤ length (now plan)) ⌝ }
+    ensures { λ _. ⌜ Left stages (now (known .entry)) (now (table .entry)) (now (table .exit)) (now (plan .entry)) (now (plan .exit)) outcome ⌝ }
+{
+    match outcome {
+        Outcome::Late => {}
+        Outcome::Short => clear(table),
+        Outcome::Found {
+            k: _,
+            g: _,
+            value: _,
+        } => {
+            clear(table);
+            copy_plan(known, stages, plan);
+        }
+    }
 }
 
 // The plan that 01 chooses, into the first bytes of `plan`.
@@ -142,52 +230,17 @@ pub fn plan_tree(
     table: &mut [i64],
     plan: &mut [u8],
 ) -> Outcome
-    requires { ⌜ PlanIn (now driver) (now delay) (now limit) (now cost) stages layers arrival p q (now plan) ⌝ }
+    requires { ⌜ PlanTreeIn (now driver) (now delay) (now limit) (now cost) stages layers arrival p q (now plan) ⌝ }
     ensures { λ r. ⌜ ((T : StageTree) → Problem T (now (driver .entry)) (now (delay .entry)) (now (limit .entry)) (now (cost .entry)) stages layers arrival p q
         → Planned T p q stages (now (table .entry)) (now (table .exit)) (now (plan .entry)) (now (plan .exit)) r) ⌝ }
 {
-    let mut first = [0usize; 64];
-    let mut next = [0usize; 64];
-    let mut early = [0i64; 64];
-    let mut late = [0i64; 64];
-    prepare(
-        driver,
-        delay,
-        stages,
-        layers,
-        arrival,
-        &mut first,
-        &mut next,
-        &mut early,
-        &mut late,
-    );
-    let mut known = [0u8; 64];
-    if !feasible(
-        driver,
-        &first,
-        &next,
-        delay,
-        limit,
-        cost,
-        &early,
-        &late,
-        stages,
-        layers,
-        arrival,
-        &mut known,
-    ) {
-        return Outcome::Late;
-    }
-    let search = descend(
+    let mut known = [0u8; MAX_STAGES];
+    let outcome = search_tree(
         table,
         driver,
-        &first,
-        &next,
         delay,
         limit,
         cost,
-        &early,
-        &late,
         stages,
         layers,
         arrival,
@@ -195,10 +248,6 @@ pub fn plan_tree(
         q,
         &mut known,
     );
-    clear(table);
-    let Search::Found { k, g, value } = search else {
-        return Outcome::Short;
-    };
-    copy_plan(&known, stages, plan);
-    Outcome::Found { k, g, value }
+    leave(outcome, &known, stages, table, plan);
+    outcome
 }

@@ -3,7 +3,7 @@
 use mathlib.Core.Path.{_≡_, refl, ap, _∙_}
 use mathlib.Core.Bool.{Bool, true, false}
 use mathlib.Core.List.{List, [], _∷_, _++_, map, map-append, append-nil}
-use Prim.Native.Nat.{ℕ, _+_, _-_, _^_, _≤_, _<_}
+use Prim.Native.Nat.{ℕ, _+_, _-_, _≤_, _<_}
 use native.Mathlib.Omega.{arith}
 use lib.Dec.{eqb}
 use lib.ListN.{length}
@@ -23,7 +23,7 @@ use Rattle.facts.specs.Fits.{halfRange}
 use Rattle.facts.specs.Bounds.{delay-in}
 use Rattle.demands.specs.StageNumbers.{sinkLimit, sinkLimits, sinksOf, SinkOf, limit-mem}
 use Rattle.delays.specs.Delayed.{delayTo}
-use Rattle.readoff.specs.Laid.{noLimit, limitOf}
+use Rattle.slices.specs.Laid.{maxEntry, limitOf, noLimit}
 use Rattle.laws.specs.Appending.{keep-append, from-last, least-last}
 
 -- The sinks of stage t among these nodes.
@@ -73,8 +73,8 @@ module _ (n : Net) (t l j : ℕ) (h : 1 ≤ j) where
       none false b p q = rw p refl
 
 -- One limit more, of a time that can be compared with `noLimit`.
-pub limit-last : (rs : List ℤ) (r : ℤ) → up r < 2 ^ 62 → limitOf (rs ++ (r ∷ [])) ≡ minZ (limitOf rs) r
-limit-last [] r h = rw (false-le noLimit r (omega (arith, pos-view (2 ^ 62)))) refl
+pub limit-last : (rs : List ℤ) (r : ℤ) → up r < maxEntry → limitOf (rs ++ (r ∷ [])) ≡ minZ (limitOf rs) r
+limit-last [] r h = rw (false-le noLimit r (omega (arith, pos-view maxEntry))) refl
 limit-last (x ∷ xs) r h = least-last x xs r
 
 -- The limit of a sink, by its required time and the delay to it.
@@ -104,11 +104,11 @@ module _ {n : Net} (A : Accepted n) where
       go (Sink c r) e i = rw (sink-time n (λ u. pos 0) j e) (asks r ((rw e at (kind-in A j)) .1))
 
   -- So is the least of a stage's limits, if there is one.
-  pub least-in : (t l : ℕ) → (up (limitOf (sinkLimits n t l)) ≤ 2 ^ 62) × (down (limitOf (sinkLimits n t l)) ≤ 2 ^ 62)
+  pub least-in : (t l : ℕ) → (up (limitOf (sinkLimits n t l)) ≤ maxEntry) × (down (limitOf (sinkLimits n t l)) ≤ maxEntry)
   least-in t l = go (sinkLimits n t l) refl
     where
-      go : (rs : List ℤ) → sinkLimits n t l ≡ rs → (up (limitOf rs) ≤ 2 ^ 62) × (down (limitOf rs) ≤ 2 ^ 62)
-      go [] e = (omega (arith, pos-view (2 ^ 62)), omega (arith, pos-view (2 ^ 62)))
+      go : (rs : List ℤ) → sinkLimits n t l ≡ rs → (up (limitOf rs) ≤ maxEntry) × (down (limitOf rs) ≤ maxEntry)
+      go [] e = (omega (arith, pos-view maxEntry), omega (arith, pos-view maxEntry))
       go (r ∷ rs) e =
           let (j, s, q) = limit-mem n t l {z = leastOf (r ∷ rs)} (rw e (least-mem (r ∷ rs) tt)) in
           let (high, low) = limit-in l s in

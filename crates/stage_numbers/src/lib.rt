@@ -4,28 +4,29 @@ use rules::Kind;
 use words::node_at;
 ghost use mathlib.Core.Path.{_≡_};
 ghost use mathlib.Core.List.{List};
-ghost use Prim.Native.Nat.{ℕ, _≤_};
+ghost use Prim.Native.Nat.{ℕ, _*_, _≤_};
 ghost use lib.ListN.{length, replicate};
 ghost use lib.IntN.{pos, _-ℤ_};
 ghost use Rattle.laws.specs.Basic.{minZ};
+ghost use Rattle.rules.specs.Bytes.{maxLayers, maxStages};
 ghost use Rattle.facts.specs.Ranges.{TimeInRange};
 ghost use Rattle.facts.specs.Fits.{halfRange};
 ghost use Rattle.words.specs.Words.{netIn};
 ghost use Rattle.words.specs.Held.{Held};
 ghost use Rattle.tree.specs.Staged.{Staged};
-ghost use Rattle.delays.specs.Tables.{entry, Row, RowIn};
+ghost use Rattle.delays.specs.Tables.{NodeRow, RowMost};
 ghost use Rattle.delays.specs.Delayed.{LayerDelays};
 ghost use Rattle.costs.specs.Priced.{Priced};
 ghost use Rattle.demands.specs.StageNumbers.{treeOf};
-ghost use Rattle.readoff.specs.Laid.{Laid, noLimit};
-ghost use Rattle.readoff.specs.RowSets.{RowOf, RowSet};
+ghost use Rattle.slices.specs.Rows.{entry, RowOf, RowSet};
+ghost use Rattle.slices.specs.Laid.{Laid, noLimit};
 ghost use Rattle.stage_numbers.specs.LimitRows.{lowered};
 ghost use Rattle.stage_numbers.specs.Noted.{NoteIn, Noted};
 
 // The delay to buffer j, on each layer, is the delay to the stage t that it drives.
 fn copy_row(layers: usize, delay: &[u64], j: usize, t: usize, wire: &mut [u64])
-    requires { ⌜ Row layers (now delay) j × RowOf (now wire) t layers ⌝ }
-    ensures { λ r. ⌜ RowSet 0 (now (wire .entry)) (now (wire .exit)) t layers (entry layers (now (delay .entry)) j) ⌝ }
+    requires { ⌜ (layers ≤ maxLayers) × NodeRow layers (now delay) j × RowOf maxStages maxLayers (now wire) t ⌝ }
+    ensures { λ r. ⌜ RowSet 0 maxLayers (now (wire .entry)) (now (wire .exit)) t layers (entry layers (now (delay .entry)) j) ⌝ }
 {
     let mut l: usize = 0;
     while l < layers {
@@ -34,8 +35,8 @@ fn copy_row(layers: usize, delay: &[u64], j: usize, t: usize, wire: &mut [u64])
     }
 }
 
-// The lesser of a limit and what a sink asks: its required time minus the delay to it.
-fn lesser(limit: i64, required: i64, delay: u64) -> i64
+// A limit lowered to what a sink asks, its required time minus the delay to it, if that is less.
+fn lowered_limit(limit: i64, required: i64, delay: u64) -> i64
     requires { ⌜ TimeInRange required × (delay ≤ halfRange) ⌝ }
     ensures { λ r. ⌜ r ≡ minZ limit (required -ℤ pos delay) ⌝ }
 {
@@ -45,9 +46,12 @@ fn lesser(limit: i64, required: i64, delay: u64) -> i64
 
 // Sink j sets its stage t a limit on each layer.
 fn lower_limits(layers: usize, delay: &[u64], j: usize, required: i64, t: usize, limit: &mut [i64])
-    requires { ⌜ RowIn layers (now delay) j halfRange × RowOf (now limit) t layers × TimeInRange required ⌝ }
+    requires { ⌜
+        (layers ≤ maxLayers) × RowMost layers (now delay) j halfRange × RowOf maxStages maxLayers (now limit) t × TimeInRange required
+        ⌝ }
     ensures { λ r. ⌜
-        RowSet (pos 0) (now (limit .entry)) (now (limit .exit)) t layers (lowered layers (now (limit .entry)) (now (delay .entry)) j required t)
+        RowSet (pos 0) maxLayers (now (limit .entry)) (now (limit .exit)) t layers
+        (lowered layers (now (limit .entry)) (now (delay .entry)) j required t)
         ⌝ }
 {
     let mut l: usize = 0;
@@ -55,7 +59,7 @@ fn lower_limits(layers: usize, delay: &[u64], j: usize, required: i64, t: usize,
         let at = t * rules::MAX_LAYERS + l;
         let d = delay[j * layers + l];
         let old = limit[at];
-        let new = lesser(old, required, d);
+        let new = lowered_limit(old, required, d);
         limit[at] = new;
         l += 1;
     }
@@ -110,7 +114,7 @@ pub fn stage_numbers(
 )
     requires { ⌜
         Held (now words) nodes layers × Staged (netIn (now words)) (now stage) (now below) × LayerDelays (netIn (now words)) layers (now delay) ×
-        (length (now driver) ≡ 64) × (length (now wire) ≡ 1024) × (now limit ≡ replicate 1024 noLimit)
+        (length (now driver) ≡ maxStages) × (length (now wire) ≡ maxStages * maxLayers) × (now limit ≡ replicate (maxStages * maxLayers) noLimit)
         ⌝ }
     ensures { λ r. ⌜
         ((cost : List ℕ) → Priced (netIn (now (words .entry))) cost

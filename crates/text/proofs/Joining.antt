@@ -87,9 +87,9 @@ pub within-more : {most mid next : ℕ} {t before middle after : List ℕ} (k : 
 within-more k w p h = record { short = omega (arith, w .short, p .ends); long = same-length p ∙ w .long }
 
 -- A text put at the front of a buffer, as the contracts of whole texts say it.
-pub front : {text before after : List ℕ} {next : ℕ} → Placed text 0 before after next
+pub at-front : {text before after : List ℕ} {next : ℕ} → Placed text 0 before after next
     → (next ≡ length text) × ((after ≡ text ++ drop next before) × Counts next after)
-front p = (omega (arith, p .ends), (p .bytes, counts _ _ (omega (arith, p .room, same-length p))))
+at-front p = (omega (arith, p .ends), (p .bytes, counts _ _ (omega (arith, p .room, same-length p))))
 
 -- The bytes that it then opens with.
 pub opening : {text before after : List ℕ} {next : ℕ} → Placed text 0 before after next → take next after ≡ text

@@ -27,7 +27,7 @@ unfolding up down
 minus-one n = same-view (negsuc 0 -ℤ negsuc n) (pos n) (omega (arith, add-view (negsuc 0) (pos (suc n))))
 
 -- A time below 0 is -(n + 1), where the code computes n as -1 - t.
-pub record Below (t : ℤ) : Type 0 where
+pub record BelowZero (t : ℤ) : Type 0 where
   pub n : ℕ
   pub size : n + 1 ≡ natAbs t
   pub fits : n < 2 ^ 63
@@ -35,22 +35,22 @@ pub record Below (t : ℤ) : Type 0 where
   pub held : toZ w64 (ofZ w64 (negsuc 0 -ℤ toZ w64 (ofZ w64 t))) ≡ pos n
   pub bytes : decimalZ t ≡ minusSign ++ decimal (natAbs (toZ w64 (ofZ w64 t)))
 
-pub below : (t : ℤ) → SFits w64 t → ltZ (toZ w64 (ofZ w64 t)) (pos 0) ≡ true → Below t
+pub below-zero : (t : ℤ) → SFits w64 t → ltZ (toZ w64 (ofZ w64 t)) (pos 0) ≡ true → BelowZero t
 unfolding decimalZ
-below (pos n) f e = absurd (omega (arith, ltb-true n 0 (rw (toZ-ofZ f) at e)))
-below (negsuc n) f e =
+below-zero (pos n) f e = absurd (omega (arith, ltb-true n 0 (rw (toZ-ofZ f) at e)))
+below-zero (negsuc n) f e =
     let h : n < 2 ^ 63 = omega (arith, f .sfits) in
     let m : negsuc 0 -ℤ toZ w64 (ofZ w64 (negsuc n)) ≡ pos n = rw (toZ-ofZ f) (minus-one n) in
     record { n = n; size = omega arith; fits = h; less = m; held = rw m (toZ-ofZ {w = w64} {z = pos n} (record { sfits = h })); bytes = rw (toZ-ofZ f) }
 
 -- A time from 0 on.
-pub record From (t : ℤ) : Type 0 where
+pub record FromZero (t : ℤ) : Type 0 where
   pub n : ℕ
   pub fits : n < 2 ^ 63
   pub held : toZ w64 (ofZ w64 t) ≡ pos n
   pub bytes : decimalZ t ≡ decimal (natAbs (toZ w64 (ofZ w64 t)))
 
-pub from : (t : ℤ) → SFits w64 t → ltZ (toZ w64 (ofZ w64 t)) (pos 0) ≡ false → From t
+pub from-zero : (t : ℤ) → SFits w64 t → ltZ (toZ w64 (ofZ w64 t)) (pos 0) ≡ false → FromZero t
 unfolding decimalZ
-from (pos n) f e = record { n = n; fits = omega (arith, f .sfits); held = toZ-ofZ f; bytes = rw (toZ-ofZ f) }
-from (negsuc n) f e = let g = rw (toZ-ofZ f) at e in let z : _≡_ {A = ℕ} 0 1 = cc in absurd (omega arith)
+from-zero (pos n) f e = record { n = n; fits = omega (arith, f .sfits); held = toZ-ofZ f; bytes = rw (toZ-ofZ f) }
+from-zero (negsuc n) f e = let g = rw (toZ-ofZ f) at e in let z : _≡_ {A = ℕ} 0 1 = cc in absurd (omega arith)

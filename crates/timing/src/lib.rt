@@ -1,5 +1,6 @@
 // Timing and cost of plans (01, Timing rule): the cost and slack that a plan of a net has.
 use costs::plan_cost;
+use delays::NODE_ROWS;
 use delays::plan_delays;
 use fanout::link;
 use required::stage_required;
@@ -10,7 +11,7 @@ use words::arrival;
 ghost use mathlib.Core.Path.{_≡_};
 ghost use mathlib.Core.List.{List};
 ghost use Prim.Native.Nat.{ℕ};
-ghost use lib.IntN.{_-ℤ_};
+ghost use lib.IntN.{pos, _-ℤ_};
 ghost use mir.Syntax.{w64};
 ghost use mir.Val.{SFits};
 ghost use Rattle.rules.specs.Tree.{Net, layerCount, areLayers};
@@ -54,8 +55,8 @@ fn slack_by(words: &[u32], nodes: usize, stage: &[usize], below: &[usize], delay
         → r ≡ slack (netIn (now (words .entry))) plan)
         ⌝ }
 {
-    let mut first = [0usize; 256];
-    let mut next = [0usize; 256];
+    let mut first = [0usize; NODE_ROWS];
+    let mut next = [0usize; NODE_ROWS];
     link(stage, nodes + 1, &mut first, &mut next);
     let required = stage_required(words, nodes, below, &first, &next, delay, 0);
     let arrives = arrival(words);
@@ -78,7 +79,7 @@ pub fn judged_by(
         r ≡ record { refusal = 0; cost = cost (netIn (now (words .entry))) (now (plan .entry)); slack = slack (netIn (now (words .entry))) (now (plan .entry)) }
         ⌝ }
 {
-    let mut delay = [0u64; 256];
+    let mut delay = [0u64; NODE_ROWS];
     plan_delays(words, nodes, stage, plan, &mut delay);
     let cost = plan_cost(words, nodes, stage, plan);
     let slack = slack_by(words, nodes, stage, below, &delay);
@@ -97,8 +98,19 @@ pub fn judged(words: &[u32], nodes: usize, plan: &[u8]) -> Judged
         r ≡ record { refusal = 0; cost = cost (netIn (now (words .entry))) (now (plan .entry)); slack = slack (netIn (now (words .entry))) (now (plan .entry)) }
         ⌝ }
 {
-    let mut stage = [0usize; 256];
-    let mut below = [0usize; 256];
+    let mut stage = [0usize; NODE_ROWS];
+    let mut below = [0usize; NODE_ROWS];
     stages(words, nodes, &mut stage, &mut below);
     judged_by(words, nodes, &stage, &below, plan)
+}
+
+// A refusal of judging: the number and zeros.
+pub fn judging_refused(r: u8) -> Judged
+    ensures { λ a. ⌜ a ≡ record { refusal = r; cost = 0; slack = pos 0 } ⌝ }
+{
+    Judged {
+        refusal: r,
+        cost: 0,
+        slack: 0,
+    }
 }

@@ -4,6 +4,7 @@ use mathlib.Core.Path.{_≡_, refl, ap, sym, _∙_}
 use mathlib.Core.Bool.{Bool, true, false}
 use mathlib.Core.Logic.{_⊎_, inl, inr}
 use mathlib.Core.List.{List}
+use Rattle.rules.specs.Bytes.{maxNodes}
 use Prim.Native.Nat.{ℕ, zero, suc, _+_, _-_, _≤_, _<_}
 use native.Mathlib.Omega.{arith}
 use lib.ListN.{length, getD, set, length-set}
@@ -45,8 +46,8 @@ module _ {n : Net} (A : Accepted n) where
 pub record Staged (n : Net) (stage below : List ℕ) : Type 0 where
   pub stage-is : (j : ℕ) → 1 ≤ j → j ≤ length (n .nodes) → getD stage j 0 ≡ stageOf n j
   pub below-is : (i : ℕ) → i ≤ length (n .nodes) → getD below i 0 ≡ stageBelow n i
-  pub stage-long : length stage ≡ 256
-  pub below-long : length below ≡ 256
+  pub stage-long : length stage ≡ maxNodes + 1
+  pub below-long : length below ≡ maxNodes + 1
 
 -- the pass before node j, count buffers passed
 pub record Passing (n : Net) (stage below : List ℕ) (j count : ℕ) : Type 0 where
@@ -55,10 +56,10 @@ pub record Passing (n : Net) (stage below : List ℕ) (j count : ℕ) : Type 0 w
   pub counted : count ≡ drives n (j - 1)
   pub stages-are : (i : ℕ) → 1 ≤ i → i < j → getD stage i 0 ≡ stageOf n i
   pub belows-are : (i : ℕ) → i < j → getD below i 0 ≡ stageBelow n i
-  pub stage-long : length stage ≡ 256
-  pub below-long : length below ≡ 256
+  pub stage-long : length stage ≡ maxNodes + 1
+  pub below-long : length below ≡ maxNodes + 1
 
-pub passing-start : (n : Net) (stage below : List ℕ) → length stage ≡ 256 → length below ≡ 256 → Passing n stage (set below 0 0) 1 0
+pub passing-start : (n : Net) (stage below : List ℕ) → length stage ≡ maxNodes + 1 → length below ≡ maxNodes + 1 → Passing n stage (set below 0 0) 1 0
 unfolding drives stageBelow rootFrom
 passing-start n stage below ls lb = record {
   some = omega arith;
@@ -82,16 +83,16 @@ passing-end P h = record {
 }
 
 -- what a turn at node j may rely on, and what it leaves
-pub record Turn (n : Net) (stage below : List ℕ) (j count : ℕ) : Type 0 where
-  pub node-in : j < 256
-  pub parent-in : at n j .parent < 256
+pub record StageTurn (n : Net) (stage below : List ℕ) (j count : ℕ) : Type 0 where
+  pub node-in : j < maxNodes + 1
+  pub parent-in : at n j .parent < maxNodes + 1
   pub count-in : count + bit (isBuffer (at n j .kind)) ≤ 255
   pub onward : Passing n (set stage j (getD below (at n j .parent) 0))
       (set below j (if isBuffer (at n j .kind) then count + bit (isBuffer (at n j .kind)) else getD below (at n j .parent) 0)) (j + 1)
       (count + bit (isBuffer (at n j .kind)))
 
-pub turn : {n : Net} → Accepted n → {stage below : List ℕ} {j count : ℕ} → Passing n stage below j count → j ≤ length (n .nodes) → Turn n stage below j count
-turn {n} A {stage} {below} {j} {count} P h =
+pub stage-turn : {n : Net} → Accepted n → {stage below : List ℕ} {j count : ℕ} → Passing n stage below j count → j ≤ length (n .nodes) → StageTurn n stage below j count
+stage-turn {n} A {stage} {below} {j} {count} P h =
     let l = A .parent-lower j (P .some) in
     let f = A .few-nodes in
     record {

@@ -4,7 +4,8 @@ use rules::Kind;
 use words::node_at;
 use words::node_in;
 ghost use mathlib.Core.Path.{_≡_};
-ghost use Prim.Native.Nat.{ℕ, _≤_};
+ghost use Prim.Native.Nat.{ℕ, _+_, _≤_};
+ghost use Rattle.rules.specs.Bytes.{maxNodes};
 ghost use lib.ListN.{length};
 ghost use Rattle.laws.specs.Basic.{if_then_else_};
 ghost use Rattle.rules.specs.Tree.{isBuffer};
@@ -70,7 +71,7 @@ fn stage_below(kind: Kind, own: usize, above: usize) -> usize
 
 // The stage of each edge, and of the wire below each node.
 pub fn stages(words: &[u32], nodes: usize, stage: &mut [usize], below: &mut [usize])
-    requires { ⌜ ((layers : ℕ) × Held (now words) nodes layers) × (length (now stage) ≡ 256) × (length (now below) ≡ 256) ⌝ }
+    requires { ⌜ ((layers : ℕ) × Held (now words) nodes layers) × (length (now stage) ≡ maxNodes + 1) × (length (now below) ≡ maxNodes + 1) ⌝ }
     ensures { λ r. ⌜ Staged (netIn (now (words .entry))) (now (stage .exit)) (now (below .exit)) ⌝ }
 {
     below[0] = 0;

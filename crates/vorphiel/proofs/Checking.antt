@@ -28,15 +28,15 @@ module _ (bs : List ℕ) where
   check-accepted e q = rw (e, q, check)
 
 module _ {bs w : List ℕ} {keep : Bool} where
-  pub refused : {r : ℕ} → NetRead bs keep (net.Refused r) w → record { refusal = r; nodes = 0; stages = 0; layers = 0 } ≡ check bs
+  pub checked-refused : {r : ℕ} → NetRead bs keep (net.Refused r) w → record { refusal = r; nodes = 0; stages = 0; layers = 0 } ≡ check bs
   unfolding counts
-  refused R = check-refused bs (turned-refused (read bs) countsOf (R .answer))
+  checked-refused R = check-refused bs (turned-refused (read bs) countsOf (R .answer))
 
   module _ {n s l : ℕ} (R : NetRead bs keep (net.Read n s l) w) where
-    pub found : record { refusal = 0; nodes = n + 1; stages = s; layers = l } ≡ check bs
+    pub checked-found : record { refusal = 0; nodes = n + 1; stages = s; layers = l } ≡ check bs
     unfolding counts
-    found = let (m, e, q) = turned-accepted (read bs) countsOf (R .answer) in check-accepted bs e q
+    checked-found = let (m, e, q) = turned-accepted (read bs) countsOf (R .answer) in check-accepted bs e q
 
-    pub few : n ≤ maxNodes
+    pub few-read : n ≤ maxNodes
     unfolding counts countsOf
-    few = let (m, e, q) = turned-accepted (read bs) countsOf (R .answer) in omega (arith, ap (λ (k : Counts). k .nodes) q, accepted bs m e .few-nodes)
+    few-read = let (m, e, q) = turned-accepted (read bs) countsOf (R .answer) in omega (arith, ap (λ (k : Counts). k .nodes) q, accepted bs m e .few-nodes)

@@ -11,7 +11,7 @@ use borrow.Author.Tests.{leb-true, lt-leb, ne-eqb}
 use Rattle.laws.specs.Basic.{within}
 use Rattle.laws.specs.Booleans.{and-left, and-right}
 use Rattle.rules.specs.Tree.{stages}
-use Rattle.rules.specs.Reading.{refuse, _>>=_, _>>_, _unless_, read}
+use Rattle.rules.specs.Reading.{refuse, read}
 use Rattle.rules.specs.Planning.{maxShare, planned}
 use Rattle.facts.specs.Answers.{turned-refused}
 use Rattle.facts.specs.Refusals.{read-numbered}

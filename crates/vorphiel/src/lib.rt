@@ -1,5 +1,5 @@
 // The open calls of the layer planner. Each answers for every input; each contract is one equation with the rules of documents 01 and 02.
-use fields::within;
+use fields::share_in_range;
 use planning::plan_net;
 use planning::refused;
 use reader::Net;
@@ -9,15 +9,13 @@ use rules::Judged;
 use rules::Planned;
 use timing::are_layers;
 use timing::judged;
+use timing::judging_refused;
 use words::CHECK_WORDS;
 use words::WORDS;
 ghost use mathlib.Core.Path.{_≡_};
-ghost use mathlib.Core.Bool.{_&&_};
-ghost use lib.Dec.{leb};
-ghost use Rattle.laws.specs.Basic.{within};
 ghost use Rattle.rules.specs.Reading.{check};
 ghost use Rattle.rules.specs.Judging.{judge};
-ghost use Rattle.rules.specs.Planning.{maxShare, planAnswer, plan, FloorPromise, Demand2, Demand3};
+ghost use Rattle.rules.specs.Planning.{planAnswer, plan, FloorPromise, Demand2, Demand3};
 ghost use Rattle.rules.specs.Chart.{tableEntries};
 ghost use Rattle.planning.specs.Calls.{PlansNet};
 ghost use Rattle.vorphiel.specs.Answers.{netRefusal};
@@ -61,11 +59,11 @@ pub extern "C" fn vorphiel_check(
         record { refusal = r; nodes = now (nodes .exit); stages = now (stages .exit); layers = now (layers .exit) } ≡ check (now (net .entry))
         ⌝ }
 {
-    let answer = check(net);
-    *nodes = answer.nodes;
-    *stages = answer.stages;
-    *layers = answer.layers;
-    answer.refusal
+    let checked = check(net);
+    *nodes = checked.nodes;
+    *stages = checked.stages;
+    *layers = checked.layers;
+    checked.refusal
 }
 
 // The refusal number of a reading, 0 for a net.
@@ -94,27 +92,15 @@ pub fn judge(net: &[u8], plan: &[u8]) -> Judged
         layers,
     } = found
     else {
-        return Judged {
-            refusal: net_refusal(found),
-            cost: 0,
-            slack: 0,
-        };
+        return judging_refused(net_refusal(found));
     };
     let sized = plan.len() == stages;
     let layered = are_layers(plan, layers);
     if !sized {
-        return Judged {
-            refusal: 7,
-            cost: 0,
-            slack: 0,
-        };
+        return judging_refused(7);
     }
     if !layered {
-        return Judged {
-            refusal: 8,
-            cost: 0,
-            slack: 0,
-        };
+        return judging_refused(8);
     }
     judged(&words, nodes, plan)
 }
@@ -127,21 +113,11 @@ pub extern "C" fn vorphiel_judge(net: &[u8], plan: &[u8], cost: &mut u64, slack:
         record { refusal = r; cost = now (cost .exit); slack = now (slack .exit) } ≡ judge (now (net .entry)) (now (plan .entry))
         ⌝ }
 {
-    let answer = judge(net, plan);
-    *cost = answer.cost;
-    let ticks = answer.slack;
-    *slack = ticks;
-    answer.refusal
-}
-
-// Whether a share p/q is in its range (refusal 9).
-fn share_in_range(p: u64, q: u64) -> bool
-    ensures { λ r. ⌜ r ≡ leb p maxShare && within 1 maxShare q ⌝ }
-{
-    if rules::MAX_SHARE < p {
-        return false;
-    }
-    within(q, 1, rules::MAX_SHARE)
+    let judged = judge(net, plan);
+    *cost = judged.cost;
+    let judged_slack = judged.slack;
+    *slack = judged_slack;
+    judged.refusal
 }
 
 // Planning, by the refusals in their order: 1 to 6 of the net, 9, 10, and what the search gives.
@@ -158,10 +134,12 @@ fn planned(net: &[u8], p: u64, q: u64, table: &mut [i64], buffer: &mut [u8]) -> 
     else {
         return refused(net_refusal(found));
     };
-    if !share_in_range(p, q) {
+    let in_range = share_in_range(p, q);
+    let roomy = stages <= buffer.len();
+    if !in_range {
         return refused(9);
     }
-    if buffer.len() < stages {
+    if !roomy {
         return refused(10);
     }
     plan_net(&words, layers, nodes, stages, p, q, table, buffer)
@@ -209,13 +187,13 @@ pub extern "C" fn vorphiel_plan(
         (record { refusal = r; cost = now (cost .exit); slack = now (slack .exit); k = now (k .exit); floor = now (floor .exit) })
         ⌝ }
 {
-    let answer = plan(net, p, q, table, buffer);
-    *cost = answer.cost;
-    let ticks = answer.slack;
-    *slack = ticks;
-    *k = answer.k;
-    *floor = answer.floor;
-    answer.refusal
+    let planned = plan(net, p, q, table, buffer);
+    *cost = planned.cost;
+    let planned_slack = planned.slack;
+    *slack = planned_slack;
+    *k = planned.k;
+    *floor = planned.floor;
+    planned.refusal
 }
 
 // The chart's number (02, wish 1): the entries of a table that always serves a net of s stages at share 1/q, 0 where the chart has none. That planning never

@@ -13,17 +13,18 @@ use mir.Facts.{toZ-ofZ}
 use mir.Syntax.{w64}
 use mir.Val.{SFits, toZ, ofZ}
 use Rattle.laws.specs.Booleans.{same-or}
-use Rattle.laws.specs.Integers.{up, down, true-le, plus-view, plus-up, plus-down}
-use Rattle.rules.specs.Bytes.{maxLayers, maxTime}
+use Rattle.laws.specs.Integers.{true-le, plus-view, plus-up, plus-down}
+use Rattle.rules.specs.Bytes.{maxLayers, maxStages}
 use Rattle.oracle.specs.Stages.{StageTree, arrive}
-use Rattle.readoff.specs.Laid.{onLayer, maxDelay}
-use Rattle.readoff.specs.Contracts.{Near, timeAt}
-use Rattle.windows.specs.Contracts.{DelayRange, Delayed, Opened}
+use Rattle.slices.specs.Laid.{maxDelay, onLayer, timeAt}
+use Rattle.readoff.specs.Contracts.{Near}
+use Rattle.readoff.specs.NearTimes.{Bounded}
+use Rattle.windows.specs.Contracts.{DelayRange, WindowsIn, Steps, Opened}
 
 -- The least and the greatest delay to stage j, one layer after the other.
 module _ {delay : List ℕ} {layers j : ℕ} where
-  pub range-start : {r : ℕ} → 0 < layers → r ≡ onLayer delay j 0 → DelayRange delay layers j 1 r r
-  range-start h e = record {
+  pub delays-start : {r : ℕ} → 0 < layers → r ≡ onLayer delay j 0 → DelayRange delay layers j 1 r r
+  delays-start h e = record {
     inside = omega arith;
     least-all = λ m k. let z : m ≡ 0 = omega arith in rw z (omega arith);
     most-all = λ m k. let z : m ≡ 0 = omega arith in rw z (omega arith);
@@ -33,9 +34,9 @@ module _ {delay : List ℕ} {layers j : ℕ} where
 
   module _ {l least most : ℕ} (R : DelayRange delay layers j l least most) where
     -- Delay d on the next layer becomes the least, or the least stays; and so for the greatest.
-    pub range-more : {d a b : ℕ} → l < layers → d ≡ onLayer delay j l → ((d < least) × (a ≡ d)) ⊎ ((least ≤ d) × (a ≡ least)) → ((most < d) × (b ≡ d)) ⊎ ((d ≤ most) × (b ≡ most))
-        → DelayRange delay layers j (l + 1) a b
-    range-more {d} {a} {b} h e s t = record {
+    pub delays-more : {d a b : ℕ} → l < layers → d ≡ onLayer delay j l → ((d < least) × (a ≡ d)) ⊎ ((least ≤ d) × (a ≡ least))
+        → ((most < d) × (b ≡ d)) ⊎ ((d ≤ most) × (b ≡ most)) → DelayRange delay layers j (l + 1) a b
+    delays-more {d} {a} {b} h e s t = record {
       inside = omega arith;
       least-all = λ m k. low m k (lesser s) (same-or l m);
       most-all = λ m k. high m k (greater t) (same-or l m);
@@ -67,18 +68,8 @@ module _ {delay : List ℕ} {layers j : ℕ} where
         greater-is (inl (k, q)) = (l, h, q ∙ e)
         greater-is (inr (k, q)) = let (m, i, p) = R .most-is in (m, i, q ∙ p)
 
-    pub range-end : layers ≤ l → DelayRange delay layers j layers least most
-    range-end h = let e : l ≡ layers = omega (arith, R .inside) in rw e at R
-
--- A window is bounded by what the delays on the way add up to.
-abbrev Bounded : ℕ → ℤ → Type 0
-Bounded d t = (up t ≤ maxTime + d) × (down t ≤ maxTime)
-
--- The windows of the stages before n follow from one another.
-pub record Steps (T : StageTree) (early late : List ℤ) (n : ℕ) : Type 0 where
-  pub first : (timeAt early 0 ≡ T .arrival) × (timeAt late 0 ≡ T .arrival)
-  pub earlier : (j l : ℕ) → 0 < j → j < n → l < T .layers → leZ (timeAt early j) (arrive T j l (timeAt early (T .driver j))) ≡ true
-  pub later : (j l : ℕ) → 0 < j → j < n → l < T .layers → leZ (arrive T j l (timeAt late (T .driver j))) (timeAt late j) ≡ true
+    pub delays-end : layers ≤ l → DelayRange delay layers j layers least most
+    delays-end h = let e : l ≡ layers = omega (arith, R .inside) in rw e at R
 
 -- The stages before j have their windows.
 pub record Opening (driver delay : List ℕ) (stages layers : ℕ) (arrival : ℤ) (early₀ late₀ early late : List ℤ) (j : ℕ) : Type 0 where
@@ -86,11 +77,11 @@ pub record Opening (driver delay : List ℕ) (stages layers : ℕ) (arrival : �
   pub inside : j ≤ stages
   pub early-long : length early ≡ length early₀
   pub late-long : length late ≡ length late₀
-  pub bounded : (T : StageTree) (N : Delayed T driver delay stages layers arrival) → (m : ℕ) → m < j
-      → Bounded (N .delays-to m) (timeAt early m) × Bounded (N .delays-to m) (timeAt late m)
-  pub is : (T : StageTree) → Delayed T driver delay stages layers arrival → Steps T early late j
+  pub bounded : (T : StageTree) (N : WindowsIn T driver delay stages layers arrival) → (m : ℕ) → m < j
+      → Bounded (N .laid .delays-to m) (timeAt early m) × Bounded (N .laid .delays-to m) (timeAt late m)
+  pub is : (T : StageTree) → WindowsIn T driver delay stages layers arrival → Steps T early late j
 
-pub opening-start : {driver delay : List ℕ} {stages layers : ℕ} {arrival : ℤ} (e l : List ℤ) (T : StageTree) → Delayed T driver delay stages layers arrival
+pub opening-start : {driver delay : List ℕ} {stages layers : ℕ} {arrival : ℤ} (e l : List ℤ) (T : StageTree) → WindowsIn T driver delay stages layers arrival
     → stages ≤ length e → stages ≤ length l
     → Opening driver delay stages layers arrival (set e 0 arrival) (set l 0 arrival) (set e 0 arrival) (set l 0 arrival) 1
 opening-start {arrival = arrival} e l T N a b =
@@ -101,7 +92,7 @@ opening-start {arrival = arrival} e l T N a b =
       inside = omega (arith, N .some-stage, N .stages-are);
       early-long = refl;
       late-long = refl;
-      bounded = λ T N m h. let z : m ≡ 0 = omega arith in let (u, d) = N .arrival-most in
+      bounded = λ T N m h. let z : m ≡ 0 = omega arith in let (u, d) = N .laid .arrival-most in
           rw (z, x, y, N .arrival-is) ((omega arith, d), (omega arith, d));
       is = λ T N. record {
         first = (x ∙ N .arrival-is, y ∙ N .arrival-is);
@@ -114,7 +105,7 @@ opening-start {arrival = arrival} e l T N a b =
 pub record Next (driver delay : List ℕ) (layers : ℕ) (early late : List ℤ) (j : ℕ) : Type 0 where
   pub driver-long : j < length driver
   pub driver-before : getD driver j 0 < j
-  pub few : j < 64
+  pub few : j < maxStages
   pub some-layer : 0 < layers
   pub delay-long : j * maxLayers + layers ≤ length delay
   pub delays-fit : {least most : ℕ} → DelayRange delay layers j layers least most → (least ≤ maxDelay) × (most ≤ maxDelay)
@@ -126,38 +117,39 @@ pub record Next (driver delay : List ℕ) (layers : ℕ) (early late : List ℤ)
 module _ {driver delay : List ℕ} {stages layers : ℕ} {arrival : ℤ} {early₀ late₀ early late : List ℤ} {j : ℕ}
     (O : Opening driver delay stages layers arrival early₀ late₀ early late j) (h : j < stages) where
   -- The stage that drives stage j is before it.
-  driver-low : (T : StageTree) → Delayed T driver delay stages layers arrival → (n : ℕ) → j ≡ suc n → getD driver j 0 < j
-  driver-low T N n e = omega (arith, N .driver-at j (O .some) (omega (arith, N .stages-are)), ap (T .driver) e, N .lower n)
+  driver-low : (T : StageTree) → WindowsIn T driver delay stages layers arrival → (n : ℕ) → j ≡ suc n → getD driver j 0 < j
+  driver-low T N n e = omega (arith, N .laid .driver-at j (O .some) (omega (arith, N .stages-are)), ap (T .driver) e, N .lower n)
 
-  driver-before : (T : StageTree) → Delayed T driver delay stages layers arrival → getD driver j 0 < j
+  driver-before : (T : StageTree) → WindowsIn T driver delay stages layers arrival → getD driver j 0 < j
   driver-before T N = driver-low T N (j - 1) (omega (arith, O .some))
 
-  delay-small : (T : StageTree) → (N : Delayed T driver delay stages layers arrival) → (r : ℕ) → (m : ℕ) × (m < layers) × (r ≡ onLayer delay j m)
-      → N .delays-to (getD driver j 0) + r ≤ N .delays-to j
+  delay-small : (T : StageTree) → (N : WindowsIn T driver delay stages layers arrival) → (r : ℕ) → (m : ℕ) × (m < layers) × (r ≡ onLayer delay j m)
+      → N .laid .delays-to (getD driver j 0) + r ≤ N .laid .delays-to j
   delay-small T N r (m, k, e) =
       let low : j < T .stages = omega (arith, N .stages-are) in
       let small : m < T .layers = omega (arith, N .layers-are) in
-      omega (arith, ap (N .delays-to) (N .driver-at j (O .some) low), N .delay-at j m (O .some) low small, N .delay-most j m (O .some) low small)
+      let same = ap (N .laid .delays-to) (N .laid .driver-at j (O .some) low) in
+      omega (arith, same, N .laid .delay-at j m (O .some) low small, N .laid .delay-most j m (O .some) low small)
 
-  pub next-stage : (T : StageTree) → Delayed T driver delay stages layers arrival → stages ≤ length early₀ → stages ≤ length late₀
+  pub next-stage : (T : StageTree) → WindowsIn T driver delay stages layers arrival → stages ≤ length early₀ → stages ≤ length late₀
       → Next driver delay layers early late j
   next-stage T N le ll =
       let i = getD driver j 0 in
       let low : i < T .stages = omega (arith, driver-before T N, N .stages-are) in
       let ((u, d), (v, e)) = O .bounded T N i (driver-before T N) in
       record {
-        driver-long = omega (arith, N .driver-long, N .stages-are);
+        driver-long = omega (arith, N .laid .driver-long, N .stages-are);
         driver-before = driver-before T N;
-        few = omega (arith, N .few-stages, N .stages-are);
+        few = omega (arith, N .laid .few-stages, N .stages-are);
         some-layer = omega (arith, N .layers-are, N .some-layer);
-        delay-long = omega (arith, N .layers-are, N .stages-are, N .few-layers, N .delay-long);
+        delay-long = omega (arith, N .layers-are, N .stages-are, N .laid .few-layers, N .laid .delay-long);
         delays-fit = λ {least} {most} R.
-            let most-to = N .delays-most j (omega (arith, N .stages-are)) in
+            let most-to = N .laid .delays-most j (omega (arith, N .stages-are)) in
             (omega (arith, delay-small T N least (R .least-is)), omega (arith, delay-small T N most (R .most-is)));
         early-long = omega (arith, O .early-long);
         late-long = omega (arith, O .late-long);
-        near-early = (omega (arith, N .delays-most i low), omega arith);
-        near-late = (omega (arith, N .delays-most i low), omega arith);
+        near-early = (omega (arith, N .laid .delays-most i low), omega arith);
+        near-late = (omega (arith, N .laid .delays-most i low), omega arith);
       }
 
   module _ {x y : ℤ} {a b : ℕ} (R : DelayRange delay layers j layers a b)
@@ -174,8 +166,8 @@ module _ {driver delay : List ℕ} {stages layers : ℕ} {arrival : ℤ} {early�
     late-other : (m : ℕ) → (m ≡ j → ⊥) → timeAt (set late j y) m ≡ timeAt late m
     late-other m n = getD-set-other late j m y (pos 0) n
 
-    bounds : (T : StageTree) (N : Delayed T driver delay stages layers arrival) (m : ℕ) → m < j + 1 → (m ≡ j) ⊎ (m ≡ j → ⊥)
-        → Bounded (N .delays-to m) (timeAt (set early j x) m) × Bounded (N .delays-to m) (timeAt (set late j y) m)
+    bounds : (T : StageTree) (N : WindowsIn T driver delay stages layers arrival) (m : ℕ) → m < j + 1 → (m ≡ j) ⊎ (m ≡ j → ⊥)
+        → Bounded (N .laid .delays-to m) (timeAt (set early j x) m) × Bounded (N .laid .delays-to m) (timeAt (set late j y) m)
     bounds T N m k (inl e) =
         let i = getD driver j 0 in
         let ((u, d), (v, c)) = O .bounded T N i (driver-before T N) in
@@ -187,9 +179,9 @@ module _ {driver delay : List ℕ} {stages layers : ℕ} {arrival : ℤ} {early�
         )
     bounds T N m k (inr n) = rw (early-other m n, late-other m n) (O .bounded T N m (omega arith))
 
-    module _ (T : StageTree) (N : Delayed T driver delay stages layers arrival) where
+    module _ (T : StageTree) (N : WindowsIn T driver delay stages layers arrival) where
       driven-at : T .driver j ≡ getD driver j 0
-      driven-at = sym (N .driver-at j (O .some) (omega (arith, N .stages-are)))
+      driven-at = sym (N .laid .driver-at j (O .some) (omega (arith, N .stages-are)))
 
       -- The driver of a stage up to j is before j.
       before-j : (m n : ℕ) → m ≡ suc n → m < j + 1 → T .driver m ≡ j → ⊥
@@ -199,9 +191,11 @@ module _ {driver delay : List ℕ} {stages layers : ℕ} {arrival : ℤ} {early�
           → leZ (timeAt (set early j x) m) (arrive T m l (timeAt (set early j x) (T .driver m))) ≡ true
       earlier-more m l p k s (inl e) =
           let i = getD driver j 0 in
-          let d = N .delay-at j l (O .some) (omega (arith, N .stages-are)) s in
+          let d = N .laid .delay-at j l (O .some) (omega (arith, N .stages-are)) s in
           let o = early-other (T .driver j) (before-j j (j - 1) (omega (arith, O .some)) (omega arith)) in
-          rw (e, early-here, o, driven-at, ex) (true-le (timeAt early i +ℤ pos a) (timeAt early i +ℤ pos (T .delay j l)) (omega (arith, plus-view (timeAt early i) a, plus-view (timeAt early i) (T .delay j l), R .least-all l (omega (arith, N .layers-are)))))
+          let least = R .least-all l (omega (arith, N .layers-are)) in
+          rw (e, early-here, o, driven-at, ex) (true-le (timeAt early i +ℤ pos a) (timeAt early i +ℤ pos (T .delay j l))
+          (omega (arith, plus-view (timeAt early i) a, plus-view (timeAt early i) (T .delay j l))))
       earlier-more m l p k s (inr n) =
           rw (early-other m n, early-other (T .driver m) (before-j m (m - 1) (omega arith) k)) (O .is T N .earlier m l p (omega arith) s)
 
@@ -209,9 +203,11 @@ module _ {driver delay : List ℕ} {stages layers : ℕ} {arrival : ℤ} {early�
           → leZ (arrive T m l (timeAt (set late j y) (T .driver m))) (timeAt (set late j y) m) ≡ true
       later-more m l p k s (inl e) =
           let i = getD driver j 0 in
-          let d = N .delay-at j l (O .some) (omega (arith, N .stages-are)) s in
+          let d = N .laid .delay-at j l (O .some) (omega (arith, N .stages-are)) s in
           let o = late-other (T .driver j) (before-j j (j - 1) (omega (arith, O .some)) (omega arith)) in
-          rw (e, late-here, o, driven-at, ey) (true-le (timeAt late i +ℤ pos (T .delay j l)) (timeAt late i +ℤ pos b) (omega (arith, plus-view (timeAt late i) b, plus-view (timeAt late i) (T .delay j l), R .most-all l (omega (arith, N .layers-are)))))
+          let most = R .most-all l (omega (arith, N .layers-are)) in
+          rw (e, late-here, o, driven-at, ey) (true-le (timeAt late i +ℤ pos (T .delay j l)) (timeAt late i +ℤ pos b)
+          (omega (arith, plus-view (timeAt late i) b, plus-view (timeAt late i) (T .delay j l))))
       later-more m l p k s (inr n) =
           rw (late-other m n, late-other (T .driver m) (before-j m (m - 1) (omega arith) k)) (O .is T N .later m l p (omega arith) s)
 
@@ -233,23 +229,15 @@ module _ {driver delay : List ℕ} {stages layers : ℕ} {arrival : ℤ} {early�
     }
 
 pub opening-end : {driver delay : List ℕ} {stages layers : ℕ} {arrival : ℤ} {early₀ late₀ early late : List ℤ} {j : ℕ}
-    → Opening driver delay stages layers arrival early₀ late₀ early late j → stages ≤ j → (T : StageTree) → Delayed T driver delay stages layers arrival
-    → Opened T early late (T .stages)
+    → Opening driver delay stages layers arrival early₀ late₀ early late j → stages ≤ j → (T : StageTree) → WindowsIn T driver delay stages layers arrival
+    → Opened T early late
 opening-end {j = j} O h T N =
     let e : j ≡ T .stages = omega (arith, O .inside, N .stages-are) in
-    let S = rw e at (O .is T N) in
     record {
-      first = S .first;
-      earlier = S .earlier;
-      later = S .later;
-      early-most = λ m k. let (u, d) = O .bounded T N m (omega arith) .0 in (omega (arith, N .delays-most m k), d);
-      late-most = λ m k. let (u, d) = O .bounded T N m (omega arith) .1 in (omega (arith, N .delays-most m k), d);
+      steps = rw e at (O .is T N);
+      early-most = λ m k. let (u, d) = O .bounded T N m (omega arith) .0 in (omega (arith, N .laid .delays-most m k), d);
+      late-most = λ m k. let (u, d) = O .bounded T N m (omega arith) .1 in (omega (arith, N .laid .delays-most m k), d);
     }
-
--- The same arrival time in another form.
-pub delayed-same : {T : StageTree} {driver delay : List ℕ} {stages layers : ℕ} {arrival a : ℤ} → a ≡ arrival → Delayed T driver delay stages layers arrival
-    → Delayed T driver delay stages layers a
-delayed-same e N = rw e N
 
 pub sum-is : {r r′ : ℤ} (z : ℤ) (d : ℕ) → r′ ≡ r → r ≡ toZ w64 (ofZ w64 z) +ℤ pos d → SFits w64 z → r′ ≡ z +ℤ pos d
 sum-is z d p q s = p ∙ q ∙ ap (λ w. w +ℤ pos d) (toZ-ofZ {w = w64} {z = z} s)

@@ -1,13 +1,14 @@
 // The windows of the stages: from when to when each can be reached, whatever the layers. The rows of the work table are cut to them.
+use slices::Tree;
 ghost use mathlib.Core.Path.{_≡_};
 ghost use Prim.Native.Nat.{_+_, _*_, _≤_, _<_};
 ghost use lib.ListN.{length};
 ghost use lib.IntN.{pos, _+ℤ_};
 ghost use Rattle.rules.specs.Bytes.{maxLayers};
 ghost use Rattle.oracle.specs.Stages.{StageTree};
-ghost use Rattle.readoff.specs.Laid.{maxDelay};
+ghost use Rattle.slices.specs.Laid.{maxDelay};
 ghost use Rattle.readoff.specs.Contracts.{Near};
-ghost use Rattle.windows.specs.Contracts.{DelayRange, Delayed, Opened};
+ghost use Rattle.windows.specs.Contracts.{DelayRange, WindowsIn, Opened};
 
 // The least and the greatest delay to a stage.
 struct Delays {
@@ -46,24 +47,19 @@ fn after(t: i64, d: u64) -> i64
 }
 
 // The earliest and the latest time at which each stage can be reached, whatever the layers.
-pub fn windows(
-    driver: &[usize],
-    delay: &[u64],
-    stages: usize,
-    layers: usize,
-    arrival: i64,
-    early: &mut [i64],
-    late: &mut [i64],
-)
-    requires { ⌜ ((T : StageTree) × Delayed T (now driver) (now delay) stages layers arrival) × (stages ≤ length (now early)) × (stages ≤ length (now late)) ⌝ }
-    ensures { λ _. ⌜ ((T : StageTree) → Delayed T (now (driver .entry)) (now (delay .entry)) stages layers arrival → Opened T (now (early .exit)) (now (late .exit)) (T .stages)) ⌝ }
+pub fn windows(driver: &[usize], delay: &[u64], n: Tree, early: &mut [i64], late: &mut [i64])
+    requires { ⌜ ((T : StageTree) × WindowsIn T (now driver) (now delay) (n .stages) (n .layers) (n .arrival))
+        × (n .stages ≤ length (now early)) × (n .stages ≤ length (now late)) ⌝ }
+    ensures { λ _. ⌜ ((T : StageTree) → WindowsIn T (now (driver .entry)) (now (delay .entry)) (n .stages) (n .layers) (n .arrival)
+        → Opened T (now (early .exit)) (now (late .exit))) ⌝ }
 {
+    let arrival = n.arrival;
     early[0] = arrival;
     late[0] = arrival;
     let mut j: usize = 1;
-    while j < stages {
+    while j < n.stages {
         let i = driver[j];
-        let range = delay_range(delay, layers, j);
+        let range = delay_range(delay, n.layers, j);
         let a = early[i];
         let b = late[i];
         let first = after(a, range.least);

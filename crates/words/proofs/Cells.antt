@@ -16,7 +16,7 @@ use Rattle.rules.specs.Bytes.{maxLayers, maxCost, number, signed, kindSize, kin
 use Rattle.rules.specs.declared.Kind.{Kind}
 use Rattle.rules.specs.declared.Kind.the-variants.{Steiner, Buffer, Sink}
 use Rattle.fields.proofs.Laws.{number-halves}
-use Rattle.words.specs.Words.{rowAt, costsFrom, kindOf, kindIn, recordIn, costsIn, nodeIn, nodesIn}
+use Rattle.words.specs.Words.{nodeRow, costsFrom, kindOf, kindIn, recordIn, costsIn, nodeIn, nodesIn}
 use Rattle.words.specs.Puts.{Three, recordAt, RecordPut, CostsPut, NodePut}
 
 same-at : (w : List ℕ) (i k : ℕ) → i ≡ k → getD w i 0 ≡ getD w k 0
@@ -53,11 +53,11 @@ pub kind-room : {t n : ℕ} (i : ℕ) → (t ≡ 3 → ⊥) → i + kindSize t �
 kind-room i no3 h = simp (ne-eqb _ _ no3) at h
 
 -- a record from the words of its row
-pub record-of : (w : List ℕ) (j : ℕ) {p l : ℕ} {k : Kind} → p ≡ getD w (rowAt j + 1) 0 → l ≡ getD w (rowAt j + 2) 0
-    → k ≡ kindOf (getD w (rowAt j) 0) (getD w (rowAt j + 3) 0) (getD w (rowAt j + 4) 0) (getD w (rowAt j + 5) 0)
+pub record-of : (w : List ℕ) (j : ℕ) {p l : ℕ} {k : Kind} → p ≡ getD w (nodeRow j + 1) 0 → l ≡ getD w (nodeRow j + 2) 0
+    → k ≡ kindOf (getD w (nodeRow j) 0) (getD w (nodeRow j + 3) 0) (getD w (nodeRow j + 4) 0) (getD w (nodeRow j + 5) 0)
     → record { parent = p; len = l; kind = k } ≡ recordIn w j
 unfolding recordIn kindIn
-record-of w j ep el ek = rw (ep, el, ek, same-at w (rowAt j + 0) (rowAt j) (omega arith))
+record-of w j ep el ek = rw (ep, el, ek, same-at w (nodeRow j + 0) (nodeRow j) (omega arith))
 
 -- three numbers
 pub three : (old : List ℕ) (i a b c : ℕ) → i + 3 ≤ length old → Three old (set (set (set old i a) (i + 1) b) (i + 2) c) i a b c
@@ -81,7 +81,7 @@ three old i a b c h =
     past k n1 n2 = getD-set-other two (i + 2) k c 0 n2 ∙ getD-set-other one (i + 1) k b 0 n1
 
 -- the record of a node
-module _ (bs : List ℕ) (L : ℕ) {tag i p l j : ℕ} {old mid : List ℕ} (T : Three old mid (rowAt j) tag p l) (ep : p ≡ number bs i 2)
+module _ (bs : List ℕ) (L : ℕ) {tag i p l j : ℕ} {old mid : List ℕ} (T : Three old mid (nodeRow j) tag p l) (ep : p ≡ number bs i 2)
     (el : l ≡ number bs (i + 2) 2) where
   pub record-steiner : tag ≡ 3 → RecordPut bs L tag i old mid j
   unfolding recordAt
@@ -90,19 +90,19 @@ module _ (bs : List ℕ) (L : ℕ) {tag i p l j : ℕ} {old mid : List ℕ} (T :
     lower = T .lower;
   }
 
-  pub record-other : {new : List ℕ} {a b c : ℕ} → Three mid new (rowAt j + 3) a b c → a ≡ number bs (i + 4 + 4 * L) 4 → b ≡ number bs (i + 4 + 4 * L + 4) 4
+  pub record-other : {new : List ℕ} {a b c : ℕ} → Three mid new (nodeRow j + 3) a b c → a ≡ number bs (i + 4 + 4 * L) 4 → b ≡ number bs (i + 4 + 4 * L + 4) 4
       → c ≡ number bs (i + 4 + 4 * L + 8) 4 → RecordPut bs L tag i old new j
   unfolding recordAt
   record-other {new} O ea eb ec = record {
     is =
         sym (record-of new j
-        (sym (O .lower (rowAt j + 1) (omega arith) ∙ T .second ∙ ep))
-        (sym (O .lower (rowAt j + 2) (omega arith) ∙ T .third ∙ el))
+        (sym (O .lower (nodeRow j + 1) (omega arith) ∙ T .second ∙ ep))
+        (sym (O .lower (nodeRow j + 2) (omega arith) ∙ T .third ∙ el))
         (rw (
-          O .lower (rowAt j) (omega arith) ∙ T .first,
+          O .lower (nodeRow j) (omega arith) ∙ T .first,
           O .first,
-          same-at new (rowAt j + 4) (rowAt j + 3 + 1) (omega arith) ∙ O .second,
-          same-at new (rowAt j + 5) (rowAt j + 3 + 2) (omega arith) ∙ O .third,
+          same-at new (nodeRow j + 4) (nodeRow j + 3 + 1) (omega arith) ∙ O .second,
+          same-at new (nodeRow j + 5) (nodeRow j + 3 + 2) (omega arith) ∙ O .third,
         )
         (sym (kind-words bs tag (i + 4 + 4 * L) ea eb ec))));
     lower = λ k h. O .lower k (omega arith) ∙ T .lower k h;
@@ -124,8 +124,8 @@ cost-is bs i k ex e = rw (← ex) (sym e)
 pub record Costing (bs : List ℕ) (L i : ℕ) (old words : List ℕ) (j k : ℕ) : Type 0 where
   pub inside : k ≤ L
   pub test : scan (costTest bs i) k L ≡ isCosts (costsAt bs L i)
-  pub each : (l : ℕ) → l < k → getD words (rowAt j + costsFrom + l) 0 ≡ number bs (i + 4 * l) 4
-  pub lower : (m : ℕ) → m < rowAt j + costsFrom → getD words m 0 ≡ getD old m 0
+  pub each : (l : ℕ) → l < k → getD words (nodeRow j + costsFrom + l) 0 ≡ number bs (i + 4 * l) 4
+  pub lower : (m : ℕ) → m < nodeRow j + costsFrom → getD words m 0 ≡ getD old m 0
   pub long : length words ≡ length old
 
 pub costing-start : (bs : List ℕ) (L i : ℕ) (old : List ℕ) (j : ℕ) → Costing bs L i old old j 0
@@ -136,34 +136,34 @@ module _ {bs : List ℕ} {L i : ℕ} {old words : List ℕ} {j k : ℕ} (C : Cos
   unfolding costsIn costsAt
   costing-end h = record {
     answer = sym (scan-end _ _ _ h) ∙ C .test;
-    are = λ e. map-same (λ l. getD words (rowAt j + costsFrom + l) 0) (λ l. number bs (i + 4 * l) 4) (from 0 L)
+    are = λ e. map-same (λ l. getD words (nodeRow j + costsFrom + l) 0) (λ l. number bs (i + 4 * l) 4) (from 0 L)
         (λ l m. C .each l (omega (arith, from-mem 0 L l m)));
     lower = C .lower;
   }
 
   module _ (h : k < L) {x : ℕ} {b : Bool} (ex : x ≡ number bs (i + 4 * k) 4) (eb : b ≡ within 1 maxCost x) where
-    kept : (m : ℕ) → m < rowAt j + costsFrom → getD (set words (rowAt j + costsFrom + k) x) m 0 ≡ getD old m 0
-    kept m d = getD-set-other words (rowAt j + costsFrom + k) m x 0 (λ e. omega arith) ∙ C .lower m d
+    kept : (m : ℕ) → m < nodeRow j + costsFrom → getD (set words (nodeRow j + costsFrom + k) x) m 0 ≡ getD old m 0
+    kept m d = getD-set-other words (nodeRow j + costsFrom + k) m x 0 (λ e. omega arith) ∙ C .lower m d
 
-    pub costing-no : b ≡ false → CostsPut bs L i old (set words (rowAt j + costsFrom + k) x) j false
+    pub costing-no : b ≡ false → CostsPut bs L i old (set words (nodeRow j + costsFrom + k) x) j false
     costing-no e = record {
       answer = sym (scan-no _ _ h (cost-is bs i k ex eb ∙ e)) ∙ C .test;
       are = λ q. let z : _≡_ {A = ℕ} 0 1 = cc in absurd (omega arith);
       lower = kept;
     }
 
-    pub costing-more : rowAt (j + 1) ≤ length old → L ≤ maxLayers → b ≡ true → Costing bs L i old (set words (rowAt j + costsFrom + k) x) j (k + 1)
+    pub costing-more : nodeRow (j + 1) ≤ length old → L ≤ maxLayers → b ≡ true → Costing bs L i old (set words (nodeRow j + costsFrom + k) x) j (k + 1)
     costing-more few thin e = record {
       inside = omega arith;
       test = sym (scan-more _ _ h (cost-is bs i k ex eb ∙ e)) ∙ C .test;
       each = λ l d. here l d (same-or k l);
       lower = kept;
-      long = length-set words (rowAt j + costsFrom + k) x ∙ C .long;
+      long = length-set words (nodeRow j + costsFrom + k) x ∙ C .long;
     }
       where
-        here : (l : ℕ) → l < k + 1 → (l ≡ k) ⊎ (l ≡ k → ⊥) → getD (set words (rowAt j + costsFrom + k) x) (rowAt j + costsFrom + l) 0 ≡ number bs (i + 4 * l) 4
-        here l d (inl q) = rw q (getD-set-same words (rowAt j + costsFrom + k) x 0 (omega (arith, C .long)) ∙ ex)
-        here l d (inr ne) = getD-set-other words (rowAt j + costsFrom + k) (rowAt j + costsFrom + l) x 0 (λ q. ne (omega arith)) ∙ C .each l (omega arith)
+        here : (l : ℕ) → l < k + 1 → (l ≡ k) ⊎ (l ≡ k → ⊥) → getD (set words (nodeRow j + costsFrom + k) x) (nodeRow j + costsFrom + l) 0 ≡ number bs (i + 4 * l) 4
+        here l d (inl q) = rw q (getD-set-same words (nodeRow j + costsFrom + k) x 0 (omega (arith, C .long)) ∙ ex)
+        here l d (inr ne) = getD-set-other words (nodeRow j + costsFrom + k) (nodeRow j + costsFrom + l) x 0 (λ q. ne (omega arith)) ∙ C .each l (omega arith)
 
 -- the record and then the costs
 pub node-put : {bs : List ℕ} {L tag i j : ℕ} {old mid new : List ℕ} {r : Bool} → RecordPut bs L tag i old mid j → CostsPut bs L (i + 4) mid new j r
@@ -173,12 +173,12 @@ node-put {j = j} R C = record {
   answer = C .answer;
   is =
       rw (
-        C .lower (rowAt j + 0) (omega arith),
-        C .lower (rowAt j + 1) (omega arith),
-        C .lower (rowAt j + 2) (omega arith),
-        C .lower (rowAt j + 3) (omega arith),
-        C .lower (rowAt j + 4) (omega arith),
-        C .lower (rowAt j + 5) (omega arith),
+        C .lower (nodeRow j + 0) (omega arith),
+        C .lower (nodeRow j + 1) (omega arith),
+        C .lower (nodeRow j + 2) (omega arith),
+        C .lower (nodeRow j + 3) (omega arith),
+        C .lower (nodeRow j + 4) (omega arith),
+        C .lower (nodeRow j + 5) (omega arith),
       )
       (R .is);
   costs-are = C .are;
@@ -186,22 +186,22 @@ node-put {j = j} R C = record {
 }
 
 -- rows that are as they were are the nodes that they were
-node-same : (old new : List ℕ) (L j : ℕ) → L ≤ maxLayers → ((k : ℕ) → rowAt j ≤ k → k < rowAt (j + 1) → getD new k 0 ≡ getD old k 0)
+node-same : (old new : List ℕ) (L j : ℕ) → L ≤ maxLayers → ((k : ℕ) → nodeRow j ≤ k → k < nodeRow (j + 1) → getD new k 0 ≡ getD old k 0)
     → nodeIn new L j ≡ nodeIn old L j
 unfolding nodeIn kindIn costsIn
 node-same old new L j thin s =
     rw (
-      s (rowAt j + 0) (omega arith) (omega arith),
-      s (rowAt j + 1) (omega arith) (omega arith),
-      s (rowAt j + 2) (omega arith) (omega arith),
-      s (rowAt j + 3) (omega arith) (omega arith),
-      s (rowAt j + 4) (omega arith) (omega arith),
-      s (rowAt j + 5) (omega arith) (omega arith),
-      map-same (λ l. getD new (rowAt j + costsFrom + l) 0) (λ l. getD old (rowAt j + costsFrom + l) 0) (from 0 L)
-          (λ l m. s (rowAt j + costsFrom + l) (omega arith) (omega (arith, from-mem 0 L l m))),
+      s (nodeRow j + 0) (omega arith) (omega arith),
+      s (nodeRow j + 1) (omega arith) (omega arith),
+      s (nodeRow j + 2) (omega arith) (omega arith),
+      s (nodeRow j + 3) (omega arith) (omega arith),
+      s (nodeRow j + 4) (omega arith) (omega arith),
+      s (nodeRow j + 5) (omega arith) (omega arith),
+      map-same (λ l. getD new (nodeRow j + costsFrom + l) 0) (λ l. getD old (nodeRow j + costsFrom + l) 0) (from 0 L)
+          (λ l m. s (nodeRow j + costsFrom + l) (omega arith) (omega (arith, from-mem 0 L l m))),
     )
 
-pub nodes-same : (old new : List ℕ) (L count : ℕ) → L ≤ maxLayers → ((k : ℕ) → rowAt 1 ≤ k → k < rowAt (count + 1) → getD new k 0 ≡ getD old k 0)
+pub nodes-same : (old new : List ℕ) (L count : ℕ) → L ≤ maxLayers → ((k : ℕ) → nodeRow 1 ≤ k → k < nodeRow (count + 1) → getD new k 0 ≡ getD old k 0)
     → nodesIn new L count ≡ nodesIn old L count
 unfolding nodesIn
 nodes-same old new L count thin s =

@@ -32,16 +32,16 @@ unfolding layerTest isLayer layerAt
 layer-is bs i k ex ey ea eb = rw (ea, eb, ex, ey)
 
 -- the layers, before layer k
-pub record Layering (bs : List ℕ) (L i : ℕ) (size : ℕ) (words : List ℕ) (k : ℕ) : Type 0 where
+pub record LayersSoFar (bs : List ℕ) (L i : ℕ) (size : ℕ) (words : List ℕ) (k : ℕ) : Type 0 where
   pub inside : k ≤ L
   pub test : scan (layerTest bs i) k L ≡ all (map isLayer (layersFrom bs i L))
   pub each : (l : ℕ) → l < k → layerIn words l ≡ layerAt bs (i + 4 * l)
   pub long : length words ≡ size
 
-pub layering-start : (bs : List ℕ) (L i : ℕ) (old : List ℕ) → Layering bs L i (length old) old 0
+pub layering-start : (bs : List ℕ) (L i : ℕ) (old : List ℕ) → LayersSoFar bs L i (length old) old 0
 layering-start bs L i old = record { inside = omega arith; test = layers-scan bs i L; each = λ l h. absurd (omega arith); long = refl }
 
-module _ {bs : List ℕ} {L i size : ℕ} {words : List ℕ} {k : ℕ} (U : Layering bs L i size words k) where
+module _ {bs : List ℕ} {L i size : ℕ} {words : List ℕ} {k : ℕ} (U : LayersSoFar bs L i size words k) where
   pub layering-end : L ≤ k → LayersPut bs L i words true
   unfolding layersIn layersFrom
   layering-end h = record {
@@ -63,7 +63,7 @@ module _ {bs : List ℕ} {L i size : ℕ} {words : List ℕ} {k : ℕ} (U : Laye
     pub layering-cap : (new : List ℕ) → a ≡ true → b ≡ false → LayersPut bs L i new false
     layering-cap new e o = layering-no new (simp (e, o))
 
-    pub layering-more : L ≤ maxLayers → rowsAt ≤ size → a ≡ true → b ≡ true → Layering bs L i size (set (set words k x) (capsAt + k) y) (k + 1)
+    pub layering-more : L ≤ maxLayers → rowsAt ≤ size → a ≡ true → b ≡ true → LayersSoFar bs L i size (set (set words k x) (capsAt + k) y) (k + 1)
     unfolding layerIn layerAt
     layering-more thin room e o = record {
       inside = omega arith;

@@ -7,10 +7,10 @@ use lib.ListN.{length, getD, length-map}
 use Rattle.laws.specs.Lists.{map-at, length-from}
 use Rattle.rules.specs.Tree as tree
 use Rattle.rules.specs.Tree.{Layer, layerCount, at, node, noNode}
-use Rattle.rules.specs.Bytes.{maxLayers, bufferTag, signed}
+use Rattle.rules.specs.Bytes.{maxLayers, maxNodes, bufferTag, signed}
 use Rattle.rules.specs.Timing.{layer, edgeCost}
 use Rattle.facts.specs.Accepted.{Accepted}
-use Rattle.words.specs.Words.{capsAt, rowAt, costsFrom, wordCount, cell, netIn, nodesIn, nodeIn, costsIn, recordIn, layerIn, layersIn, driverIn}
+use Rattle.words.specs.Words.{capsAt, nodeRow, costsFrom, wordCount, cell, netIn, nodesIn, nodeIn, costsIn, recordIn, layerIn, layersIn, driverIn}
 use Rattle.words.specs.declared.Node.{Node}
 
 -- all of a node but its costs
@@ -55,10 +55,10 @@ row-is w (suc j) h b = go j (omega (arith, count-is w))
 
 -- a row in the array
 pub record RowIn (w : List ℕ) (layers j : ℕ) : Type 0 where
-  pub few : j < 256
-  pub few-layers : layers ≤ 16
+  pub few : j < maxNodes + 1
+  pub few-layers : layers ≤ maxLayers
   pub is : recordIn w j ≡ recordOf (at (netIn w) j)
-  pub cost-is : (l : ℕ) → l < layers → edgeCost (netIn w) l j ≡ getD w (rowAt j + costsFrom + l) 0
+  pub cost-is : (l : ℕ) → l < layers → edgeCost (netIn w) l j ≡ getD w (nodeRow j + costsFrom + l) 0
 
 -- row j of a net that is held
 pub row-in : {w : List ℕ} {nodes layers j : ℕ} → Held w nodes layers → 1 ≤ j → j ≤ nodes → RowIn w layers j
@@ -72,8 +72,8 @@ row-in {w} {nodes} {layers} {j} H h b =
       is = sym (ap recordOf q);
       cost-is = λ l d.
           ap (λ (m : tree.Node). getD (m .costs) l 0) q ∙
-          map-at (λ i. getD w (rowAt j + costsFrom + i) 0) 0 0 (cell w 0 2) l (omega (arith, H .layers-are, layers-is w)) ∙
-          ap (λ (i : ℕ). getD w (rowAt j + costsFrom + i) 0) (omega arith);
+          map-at (λ i. getD w (nodeRow j + costsFrom + i) 0) 0 0 (cell w 0 2) l (omega (arith, H .layers-are, layers-is w)) ∙
+          ap (λ (i : ℕ). getD w (nodeRow j + costsFrom + i) 0) (omega arith);
     }
 
 -- a layer in the array

@@ -8,7 +8,7 @@ use Rattle.laws.specs.Basic.{all, from}
 use Rattle.rules.specs.Tree.{Layer}
 use Rattle.rules.specs.Bytes.{bufferTag, number, kindAt, costsAt, isCosts, layerAt, isLayer, driverAt, isDriver}
 use Rattle.words.specs.declared.Node.{Node}
-use Rattle.words.specs.Words.{rowsAt, rowAt, costsFrom, cell, recordIn, costsIn, layersIn, driverIn}
+use Rattle.words.specs.Words.{rowsAt, nodeRow, costsFrom, cell, recordIn, costsIn, layersIn, driverIn}
 
 -- three numbers from place i on, all others as they were
 pub record Three (old new : List ℕ) (i a b c : ℕ) : Type 0 where
@@ -24,20 +24,20 @@ recordAt bs L tag i = record { parent = number bs i 2; len = number bs (i + 2) 2
 -- it in row j, all before that row as it was
 pub record RecordPut (bs : List ℕ) (L tag i : ℕ) (old new : List ℕ) (j : ℕ) : Type 0 where
   pub is : recordIn new j ≡ recordAt bs L tag i
-  pub lower : (k : ℕ) → k < rowAt j → getD new k 0 ≡ getD old k 0
+  pub lower : (k : ℕ) → k < nodeRow j → getD new k 0 ≡ getD old k 0
 
 -- the costs from i on in row j as far as they are in their range, and whether all are
 pub record CostsPut (bs : List ℕ) (L i : ℕ) (old new : List ℕ) (j : ℕ) (r : Bool) : Type 0 where
   pub answer : r ≡ isCosts (costsAt bs L i)
   pub are : r ≡ true → costsIn new L j ≡ costsAt bs L i
-  pub lower : (k : ℕ) → k < rowAt j + costsFrom → getD new k 0 ≡ getD old k 0
+  pub lower : (k : ℕ) → k < nodeRow j + costsFrom → getD new k 0 ≡ getD old k 0
 
 -- both: the node of this tag whose payload starts at i in row j, all before that row as it was
 pub record NodePut (bs : List ℕ) (L tag i : ℕ) (old new : List ℕ) (j : ℕ) (r : Bool) : Type 0 where
   pub answer : r ≡ isCosts (costsAt bs L (i + 4))
   pub is : recordIn new j ≡ recordAt bs L tag i
   pub costs-are : r ≡ true → costsIn new L j ≡ costsAt bs L (i + 4)
-  pub lower : (k : ℕ) → k < rowAt j → getD new k 0 ≡ getD old k 0
+  pub lower : (k : ℕ) → k < nodeRow j → getD new k 0 ≡ getD old k 0
 
 -- the L layers from i on
 unfoldable pub layersFrom : List ℕ → ℕ → ℕ → List Layer

@@ -10,42 +10,42 @@ use lib.Dec.{eqb}
 use lib.ListN.{length, getD}
 use Rattle.laws.specs.Basic.{if_then_else_, from}
 use Rattle.rules.specs.Tree as tree
-use Rattle.rules.specs.Bytes.{steinerTag, bufferTag, signed}
+use Rattle.rules.specs.Bytes.{maxLayers, maxNodes, steinerTag, bufferTag, signed}
 use Rattle.rules.specs.declared.Kind.{Kind}
 use Rattle.rules.specs.declared.Kind.the-variants.{Steiner, Buffer, Sink}
 use Rattle.words.specs.declared.Node.{Node}
 
 -- where the unit capacitances begin
 abbrev pub capsAt : ℕ
-capsAt = 16
+capsAt = maxLayers
 
 -- where the rows begin
 abbrev pub rowsAt : ℕ
-rowsAt = 32
+rowsAt = capsAt + maxLayers
 
 -- where the count of nodes after the driver stands: in row 0, after its tag
 abbrev pub countAt : ℕ
 countAt = rowsAt + 1
 
--- how many numbers a row has
-abbrev pub width : ℕ
-width = 22
-
--- where row j begins
-abbrev pub rowAt : ℕ → ℕ
-rowAt j = rowsAt + j * width
-
 -- where the costs begin in a row
 abbrev pub costsFrom : ℕ
 costsFrom = 6
 
+-- how many numbers a row has
+abbrev pub width : ℕ
+width = costsFrom + maxLayers
+
+-- where row j begins
+abbrev pub nodeRow : ℕ → ℕ
+nodeRow j = rowsAt + j * width
+
 -- how many numbers hold a net: the layers, and rows for the driver and 255 nodes
 abbrev pub wordCount : ℕ
-wordCount = rowAt 256
+wordCount = nodeRow (maxNodes + 1)
 
 -- how many are enough to read a net without keeping it: the layers, the driver's row and one more
 abbrev pub checkCount : ℕ
-checkCount = rowAt 2
+checkCount = nodeRow 2
 
 -- the row for the node after so many: its own where the net is kept, else always row 1
 abbrev pub rowFor : Bool → ℕ → ℕ
@@ -58,7 +58,7 @@ pub record Rows (keep : Bool) (w : List ℕ) : Type 0 where
 
 -- number c of row j
 abbrev pub cell : List ℕ → ℕ → ℕ → ℕ
-cell w j c = getD w (rowAt j + c) 0
+cell w j c = getD w (nodeRow j + c) 0
 
 -- a kind from its tag and its own three words; a sink's second and third are the halves of its required time
 unfoldable pub kindOf : ℕ → ℕ → ℕ → ℕ → Kind
@@ -77,7 +77,7 @@ recordIn w j = record { parent = cell w j 1; len = cell w j 2; kind = kindIn w j
 
 -- its costs on L layers
 unfoldable pub costsIn : List ℕ → ℕ → ℕ → List ℕ
-costsIn w L j = map (λ l. getD w (rowAt j + costsFrom + l) 0) (from 0 L)
+costsIn w L j = map (λ l. getD w (nodeRow j + costsFrom + l) 0) (from 0 L)
 
 -- node j
 unfoldable pub nodeIn : List ℕ → ℕ → ℕ → tree.Node

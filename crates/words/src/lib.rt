@@ -12,27 +12,27 @@ ghost use lib.ListN.{length, set};
 ghost use Rattle.rules.specs.Tree.{at};
 ghost use Rattle.rules.specs.Bytes.{maxLayers, maxNodes, kindSize};
 ghost use Rattle.rules.specs.Timing.{layer, edgeCost};
-ghost use Rattle.words.specs.Words.{rowsAt, countAt, rowAt, kindOf, recordIn, netIn};
+ghost use Rattle.words.specs.Words.{rowsAt, countAt, nodeRow, kindOf, recordIn, netIn};
 ghost use Rattle.words.specs.Held.{Held, recordOf};
 ghost use Rattle.words.specs.Puts.{Three, RecordPut, CostsPut, NodePut, LayersPut, DriverPut};
 
 // Where the unit capacitances of the layers begin.
-const CAPS_AT: usize = 16;
+const CAPS_AT: usize = rules::MAX_LAYERS;
 
 // Where the rows begin.
-const ROWS_AT: usize = 32;
+const ROWS_AT: usize = CAPS_AT + rules::MAX_LAYERS;
 
 // Where the count of nodes after the driver stands: in row 0, after its tag.
 const COUNT_AT: usize = ROWS_AT + 1;
 
-// How many words a row has.
-const WIDTH: usize = 22;
-
 // Where the costs begin in a row.
 const COSTS_AT: usize = 6;
 
+// How many words a row has.
+const WIDTH: usize = COSTS_AT + rules::MAX_LAYERS;
+
 // How many words hold a net: the layers, and rows for the driver and 255 nodes.
-pub const WORDS: usize = ROWS_AT + 256 * WIDTH;
+pub const WORDS: usize = ROWS_AT + (rules::MAX_NODES + 1) * WIDTH;
 
 // How many words are enough to read a net without keeping it: the layers, the driver's row and one more.
 pub const CHECK_WORDS: usize = ROWS_AT + 2 * WIDTH;
@@ -70,7 +70,7 @@ fn kind_of(tag: u32, a: u32, b: u32, c: u32) -> Kind
 
 // The record in row j.
 pub fn node_in(words: &[u32], j: usize) -> Node
-    requires { ⌜ rowAt (j + 1) ≤ length (now words) ⌝ }
+    requires { ⌜ nodeRow (j + 1) ≤ length (now words) ⌝ }
     ensures { λ r. ⌜ r ≡ recordIn (now (words .entry)) j ⌝ }
 {
     let at = ROWS_AT + j * WIDTH;
@@ -93,7 +93,7 @@ fn put_three(words: &mut [u32], i: usize, a: u32, b: u32, c: u32)
 // All of the node of this tag whose payload starts at `start` but its costs, into row j.
 fn put_record(net: &[u8], tag: u32, start: usize, layers: usize, j: usize, words: &mut [u32])
     requires { ⌜
-        (layers ≤ maxLayers) × (start + 4 + 4 * layers + kindSize tag ≤ length (now net)) × (rowAt (j + 1) ≤ length (now words))
+        (layers ≤ maxLayers) × (start + 4 + 4 * layers + kindSize tag ≤ length (now net)) × (nodeRow (j + 1) ≤ length (now words))
         ⌝ }
     ensures { λ r. ⌜ RecordPut (now (net .entry)) layers tag start (now (words .entry)) (now (words .exit)) j ⌝ }
 {
@@ -113,7 +113,7 @@ fn put_record(net: &[u8], tag: u32, start: usize, layers: usize, j: usize, words
 // The costs from `at` on, one for each layer, into row j, and whether they are in their range; the first that is not ends the work.
 fn put_costs(net: &[u8], at: usize, layers: usize, j: usize, words: &mut [u32]) -> bool
     requires { ⌜
-        (layers ≤ maxLayers) × (at + 4 * layers ≤ length (now net)) × (rowAt (j + 1) ≤ length (now words))
+        (layers ≤ maxLayers) × (at + 4 * layers ≤ length (now net)) × (nodeRow (j + 1) ≤ length (now words))
         ⌝ }
     ensures { λ r. ⌜ CostsPut (now (net .entry)) layers at (now (words .entry)) (now (words .exit)) j r ⌝ }
 {
@@ -139,7 +139,7 @@ pub fn put_node(
     words: &mut [u32],
 ) -> bool
     requires { ⌜
-        (layers ≤ maxLayers) × (start + 4 + 4 * layers + kindSize tag ≤ length (now net)) × (rowAt (j + 1) ≤ length (now words))
+        (layers ≤ maxLayers) × (start + 4 + 4 * layers + kindSize tag ≤ length (now net)) × (nodeRow (j + 1) ≤ length (now words))
         ⌝ }
     ensures { λ r. ⌜ NodePut (now (net .entry)) layers tag start (now (words .entry)) (now (words .exit)) j r ⌝ }
 {
@@ -171,7 +171,7 @@ pub fn put_layers(net: &[u8], at: usize, layers: usize, words: &mut [u32]) -> bo
 
 // The driver that stands at `at`, into row 0, and whether its numbers are in their ranges. It is a buffer of no input capacitance.
 pub fn put_driver(net: &[u8], at: usize, layers: usize, words: &mut [u32]) -> bool
-    requires { ⌜ (layers ≤ maxLayers) × (at + 16 ≤ length (now net)) × (rowAt 1 ≤ length (now words)) ⌝ }
+    requires { ⌜ (layers ≤ maxLayers) × (at + 16 ≤ length (now net)) × (nodeRow 1 ≤ length (now words)) ⌝ }
     ensures { λ r. ⌜ DriverPut (now (net .entry)) layers at (now (words .entry)) (now (words .exit)) r ⌝ }
 {
     let gate_res = number(net, at, 4);
@@ -191,7 +191,7 @@ pub fn put_driver(net: &[u8], at: usize, layers: usize, words: &mut [u32]) -> bo
 
 // The count of nodes after the driver, into row 0.
 pub fn put_count(words: &mut [u32], count: usize)
-    requires { ⌜ (count ≤ maxNodes) × (rowAt 1 ≤ length (now words)) ⌝ }
+    requires { ⌜ (count ≤ maxNodes) × (nodeRow 1 ≤ length (now words)) ⌝ }
     ensures { λ r. ⌜ now (words .exit) ≡ set (now (words .entry)) countAt count ⌝ }
 {
     words[COUNT_AT] = count as u32;

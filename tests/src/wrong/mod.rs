@@ -1,19 +1,19 @@
-//! Wrong planners, in the library's place behind the C interface: one planner by a table of budgets, and a list of
-//! mistakes, of which it makes one at a time. The comparison must expose each of them, and must find no fault with the
-//! planner that makes none.
+//! Wrong planners, in the library's place and with the C calls' parameters: one planner by a table of budgets, and a
+//! list of mistakes, of which it makes one at a time. The comparison must expose each of them, and must find no fault
+//! with the planner that makes none.
 
 mod calls;
 mod chart;
-mod exported;
 mod mistakes;
+mod pointers;
 mod rare;
 mod reading;
 mod search;
 mod timing;
 
-pub use exported::interface;
 pub use mistakes::Mistake;
 use mistakes::Other;
+pub use pointers::interface;
 
 /// A planner that makes one mistake.
 #[derive(Clone, Copy)]

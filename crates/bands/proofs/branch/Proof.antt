@@ -11,10 +11,10 @@ use Rattle.bands.proofs.branch.Statement.{statement}
 use Rattle.bands.proofs.branch.Tie as tie
 
 abbrev Inv-loop : tie.InvT-loop
-Inv-loop table₀ from out start end d limit delay w₀ table w = Branching table₀ from out start end d (toZ w64 limit) table w
+Inv-loop table₀ out limit row end delay w₀ table w = Branching table₀ row out w₀ end delay (toZ w64 limit) table w
 
 abbrev μ-loop : tie.MeasureT-loop
-μ-loop table₀ from out start end d limit delay w₀ table w = end - w
+μ-loop table₀ out limit row end delay w₀ table w = end - w
 
 cast-delay : tie.Need-cast-delay Inv-loop μ-loop
 cast-delay c = search needs
@@ -32,8 +32,11 @@ slice-copy-out-x : tie.Need-slice-copy-out-x Inv-loop μ-loop
 slice-copy-out-x c = search needs
 
 sub-x : tie.Need-sub-x Inv-loop μ-loop
-sub-x c = let I = c .before .before .before .pre in
-    less-fits (branch-read I (c .before .before .loop .inv) (c .before .loop-test .taken)) (branch-range I (c .before .before .loop .inv) (c .before .loop-test .taken)) (I .small)
+sub-x c =
+    let I = c .before .before .before .before .pre in
+    let B = c .before .before .loop .inv in
+    let h = c .before .loop-test .taken in
+    less-fits (branch-read I B h) (branch-range I B h) (I .small)
 
 add-x-2 : tie.Need-add-x-2 Inv-loop μ-loop
 add-x-2 c = search needs
@@ -60,7 +63,7 @@ loop-less : tie.Need-loop-less Inv-loop μ-loop
 loop-less c = search needs
 
 loop-again : tie.Need-loop-again Inv-loop μ-loop
-loop-again c = let I = c .before .before .before .before .pre in
+loop-again c = let I = c .before .before .before .before .before .pre in
     let B = c .before .before .before .loop .inv in
     let h = c .before .before .loop-test .taken in
     let x = less-is (branch-read I B h) (branch-range I B h) (I .small) in
@@ -70,7 +73,7 @@ same-length : tie.Need-same-length Inv-loop μ-loop
 same-length c = search needs
 
 returns : tie.Need-returns Inv-loop μ-loop
-returns c = branch-end (c .before .before .pre) (c .before .loop .inv) (omega arith) (toZ-ofZ (c .before .before .fits .limit))
+returns c = branch-end (c .before .before .before .pre) (c .before .loop .inv) (omega arith) (toZ-ofZ (c .before .before .before .fits .limit))
 
 pub branch-spec : {M : Type 1} → statement M
 branch-spec =

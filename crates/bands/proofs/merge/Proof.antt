@@ -1,4 +1,4 @@
--- `merge` is right: i and j are the two pointers of the definition, and the columns from sa + sb to before w hold the lesser of their entries.
+-- `merge` is right: i and j are the two pointers of the definition, and the columns before w, from the first on, hold the lesser of their entries.
 use borrow.Author.Needs.{needs}
 use Prim.Native.Nat.{_-_, _<_}
 use mathlib.Core.Logic.{⊎-elim, inl, inr}
@@ -8,10 +8,22 @@ use Rattle.bands.proofs.merge.Statement.{statement}
 use Rattle.bands.proofs.merge.Tie as tie
 
 abbrev Inv-loop : tie.InvT-loop
-Inv-loop table₀ a sa ea da b sb eb db out width delay-a delay-b i₀ j₀ w₀ table i j w = Merging table₀ a sa ea da b sb eb db out width table i j w
+Inv-loop table₀ out width row-a end-a delay-a row-b end-b delay-b i₀ j₀ w₀ table i j w =
+    Merging table₀ row-a i₀ end-a delay-a row-b j₀ end-b delay-b out width table i j w
 
 abbrev μ-loop : tie.MeasureT-loop
-μ-loop table₀ a sa ea da b sb eb db out width delay-a delay-b i₀ j₀ w₀ table i j w = width - w
+μ-loop table₀ out width row-a end-a delay-a row-b end-b delay-b i₀ j₀ w₀ table i j w = width - w
+
+-- The start of the call, from the loop.
+abbrev start : tie.At-loop Inv-loop μ-loop → tie.Start Inv-loop μ-loop
+start a = a .before .before .before .before .before
+
+-- Where neither pointer is at its end.
+i-inside : (e : tie.Else2 Inv-loop μ-loop) → e .before .before .before .loop .i < start (e .before .before .before) .args .a .end
+i-inside e = omega (arith, e .before .before .before .loop .inv .i-most)
+
+j-inside : (e : tie.Else2 Inv-loop μ-loop) → e .before .before .before .loop .j < start (e .before .before .before) .args .b .end
+j-inside e = omega (arith, e .before .before .before .loop .inv .j-most)
 
 cast-delay-a : tie.Need-cast-delay-a Inv-loop μ-loop
 cast-delay-a c = search needs
@@ -29,13 +41,13 @@ same-length : tie.Need-same-length Inv-loop μ-loop
 same-length c = search needs
 
 returns : tie.Need-returns Inv-loop μ-loop
-returns c = merge-stop (c .before .before .before .pre) (c .before .before .loop .inv) (omega arith) (inr (inl (c .if1 .taken)))
+returns c = let a = c .before .before in merge-stop (start a .pre) (a .loop .inv) (omega arith) (inr (inl (c .if1 .taken)))
 
 same-length-2 : tie.Need-same-length-2 Inv-loop μ-loop
 same-length-2 c = search needs
 
 returns-2 : tie.Need-returns-2 Inv-loop μ-loop
-returns-2 c = merge-stop (c .before .before .before .before .pre) (c .before .before .before .loop .inv) (omega arith) (inr (inr (c .if2 .taken)))
+returns-2 c = let a = c .before .before .before in merge-stop (start a .pre) (a .loop .inv) (omega arith) (inr (inr (c .if2 .taken)))
 
 add-x : tie.Need-add-x Inv-loop μ-loop
 add-x c = search needs
@@ -48,10 +60,11 @@ slice-copy-out-x c = search needs
 
 sub-x : tie.Need-sub-x Inv-loop μ-loop
 sub-x c =
-    let I = c .before .before .before .before .before .pre in
-    let M = c .before .before .before .before .loop .inv in
-    let hi : c .before .before .before .before .loop .i < c .before .before .before .before .before .args .ea = omega (arith, M .i-most) in
-    less-fits (merge-read-a I M hi) (I .range-a (c .before .before .before .before .loop .i) (i-low I M) hi) (I .small-a)
+    let e = c .before in
+    let a = e .before .before .before in
+    let I = start a .pre in
+    let M = a .loop .inv in
+    less-fits (merge-read-a I M (i-inside e)) (I .range-a (a .loop .i) (i-low I M) (i-inside e)) (I .small-a)
 
 add-y : tie.Need-add-y Inv-loop μ-loop
 add-y c = search needs
@@ -64,12 +77,11 @@ slice-copy-out-y c = search needs
 
 sub-y : tie.Need-sub-y Inv-loop μ-loop
 sub-y c =
-    let I = c .before .before .before .before .before .before .pre in
-    let M = c .before .before .before .before .before .loop .inv in
-    let h = c .before .before .before .before .loop-test .taken in
-    let hi : c .before .before .before .before .before .loop .i < c .before .before .before .before .before .before .args .ea = omega (arith, M .i-most) in
-    let hj : c .before .before .before .before .before .loop .j < c .before .before .before .before .before .before .args .eb = omega (arith, M .j-most) in
-    less-fits (merge-read-b I M hj) (I .range-b (c .before .before .before .before .before .loop .j) (j-low I M) hj) (I .small-b)
+    let e = c .before .before in
+    let a = e .before .before .before in
+    let I = start a .pre in
+    let M = a .loop .inv in
+    less-fits (merge-read-b I M (j-inside e)) (I .range-b (a .loop .j) (j-low I M) (j-inside e)) (I .small-b)
 
 add-x-2 : tie.Need-add-x-2 Inv-loop μ-loop
 add-x-2 c = search needs
@@ -103,20 +115,23 @@ loop-less c = search needs
 
 loop-again : tie.Need-loop-again Inv-loop μ-loop
 loop-again c =
-    let I = c .before .before .before .before .before .before .before .pre in
-    let M = c .before .before .before .before .before .before .loop .inv in
-    let h = c .before .before .before .before .before .loop-test .taken in
-    let hi : c .before .before .before .before .before .before .loop .i < c .before .before .before .before .before .before .before .args .ea = omega (arith, M .i-most) in
-    let hj : c .before .before .before .before .before .before .loop .j < c .before .before .before .before .before .before .before .args .eb = omega (arith, M .j-most) in
-    let x = less-is (merge-read-a I M hi) (I .range-a (c .before .before .before .before .before .before .loop .i) (i-low I M) hi) (I .small-a) in
-    let y = less-is (merge-read-b I M hj) (I .range-b (c .before .before .before .before .before .before .loop .j) (j-low I M) hj) (I .small-b) in
-    ⊎-elim (λ w. rw (w .1, w .2, w .3) (merge-left I M h hi hj x y (w .0 .taken))) (λ w. rw (w .1, w .2, w .3) (merge-right I M h hi hj x y (w .0 .left))) (c .if3 .came)
+    let e = c .before .before .before in
+    let a = e .before .before .before in
+    let I = start a .pre in
+    let M = a .loop .inv in
+    let h = e .before .before .loop-test .taken in
+    let hi = i-inside e in
+    let hj = j-inside e in
+    let x = less-is (merge-read-a I M hi) (I .range-a (a .loop .i) (i-low I M) hi) (I .small-a) in
+    let y = less-is (merge-read-b I M hj) (I .range-b (a .loop .j) (j-low I M) hj) (I .small-b) in
+    ⊎-elim (λ w. rw (w .1, w .2, w .3) (merge-left I M h hi hj x y (w .0 .taken)))
+    (λ w. rw (w .1, w .2, w .3) (merge-right I M h hi hj x y (w .0 .left))) (c .if3 .came)
 
 same-length-3 : tie.Need-same-length-3 Inv-loop μ-loop
 same-length-3 c = search needs
 
 returns-3 : tie.Need-returns-3 Inv-loop μ-loop
-returns-3 c = merge-last (c .before .before .pre) (c .before .loop .inv) (omega arith)
+returns-3 c = let a = c .before in merge-last (start a .pre) (a .loop .inv) (omega arith)
 
 pub merge-spec : {M : Type 1} → statement M
 merge-spec =

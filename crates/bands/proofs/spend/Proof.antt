@@ -11,10 +11,10 @@ use Rattle.bands.proofs.spend.Reads as reads
 use Rattle.bands.proofs.spend.Lts as lts
 
 abbrev Inv-loop : tie.InvT-loop
-Inv-loop table₀ from out start end c d delay i₀ table i = Spending table₀ from out start end c d table i
+Inv-loop table₀ out c row start delay i₀ table i = Spending table₀ row out start i₀ c delay table i
 
 abbrev μ-loop : tie.MeasureT-loop
-μ-loop table₀ from out start end c d delay i₀ table i = i
+μ-loop table₀ out c row start delay i₀ table i = i
 
 cast-delay : tie.Need-cast-delay Inv-loop μ-loop
 cast-delay c = search needs
@@ -36,7 +36,7 @@ slice-copy-out-x c = search needs
 
 sub-x : tie.Need-sub-x Inv-loop μ-loop
 sub-x c =
-    let I = c .before .before .before .pre in
+    let I = c .before .before .before .before .pre in
     let S = c .before .before .loop .inv in
     less-fits (spend-from I S (omega arith) (omega arith)) (spend-in-from I S (omega arith) (omega arith)) (I .small)
 
@@ -69,10 +69,10 @@ loop-less c = search needs
 
 loop-again : tie.Need-loop-again Inv-loop μ-loop
 loop-again c =
-    let I = c .before .before .before .before .before .pre in
+    let I = c .before .before .before .before .before .before .pre in
     let S = c .before .before .before .before .loop .inv in
     let one : c .before .before .before .before .loop .i ≡ suc (c .before .before .before .before .loop .i - 1) = omega arith in
-    let h : c .before .before .before .before .before .args .start ≤ c .before .before .before .before .loop .i - 1 = omega arith in
+    let h : c .before .before .before .before .before .before .args .part .start ≤ c .before .before .before .before .loop .i - 1 = omega arith in
     let x = less-is (spend-from I S one h) (spend-in-from I S one h) (I .small) in
     let y = entry-is (spend-out I S one h) (range-more _ (spend-in-out I S one h)) in
     spend-better I S one h x y (c .if1 .taken)
@@ -82,10 +82,10 @@ loop-less-2 c = search needs
 
 loop-again-2 : tie.Need-loop-again-2 Inv-loop μ-loop
 loop-again-2 c =
-    let I = c .before .before .before .before .before .pre in
+    let I = c .before .before .before .before .before .before .pre in
     let S = c .before .before .before .before .loop .inv in
     let one : c .before .before .before .before .loop .i ≡ suc (c .before .before .before .before .loop .i - 1) = omega arith in
-    let h : c .before .before .before .before .before .args .start ≤ c .before .before .before .before .loop .i - 1 = omega arith in
+    let h : c .before .before .before .before .before .before .args .part .start ≤ c .before .before .before .before .loop .i - 1 = omega arith in
     let x = less-is (spend-from I S one h) (spend-in-from I S one h) (I .small) in
     let y = entry-is (spend-out I S one h) (range-more _ (spend-in-out I S one h)) in
     spend-worse I S one h x y (c .if1 .left)
@@ -94,7 +94,7 @@ same-length : tie.Need-same-length Inv-loop μ-loop
 same-length c = search needs
 
 returns : tie.Need-returns Inv-loop μ-loop
-returns c = spend-end (c .before .before .pre) (c .before .loop .inv) (omega arith)
+returns c = spend-end (c .before .before .before .pre) (c .before .loop .inv) (omega arith)
 
 pub spend-spec : {M : Type 1} → statement M
 spend-spec =

@@ -1,5 +1,4 @@
 -- `table` is right: the checker computes the rule over all 640 numbers.
-use borrow.Author.Needs.{needs}
 use mathlib.Core.Path.{refl}
 use Rattle.rules.specs.Planning.{enoughColumns}
 use Rattle.rules.specs.Chart.{chartEntry}

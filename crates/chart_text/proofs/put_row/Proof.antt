@@ -9,7 +9,7 @@ use Rattle.rules.specs.Chart.{chartShares, chartRow, OnChart}
 use Rattle.text.specs.Placing.{Placed}
 use Rattle.text.proofs.Joining as joining
 use Rattle.text.proofs.Separated.{later, later-start, later-put, between-put}
-use Rattle.chart_text.proofs.Cells.{cell, cell-length}
+use Rattle.chart_text.proofs.Cells.{printedEntry, printed-length}
 use Rattle.chart_text.proofs.put_row.Statement.{statement}
 use Rattle.chart_text.proofs.put_row.Tie as tie
 use Rattle.chart_text.proofs.put_row.Reads as reads
@@ -20,7 +20,7 @@ use Rattle.text.proofs.put_number.Reads as put-number-reads
 
 abbrev Inv-loop : tie.InvT-loop
 Inv-loop s out₀ at next₀ q₀ t6 out next q =
-    (length out ≡ length out₀) × (1 ≤ q) × (q ≤ chartShares) × (next + 1 ≤ at + 6 * q) × Placed (later space (cell s) q) next₀ out₀ out next
+    (length out ≡ length out₀) × (1 ≤ q) × (q ≤ chartShares) × (next + 1 ≤ at + 6 * q) × Placed (later space (printedEntry s) q) next₀ out₀ out next
 
 abbrev μ-loop : tie.MeasureT-loop
 μ-loop s out₀ at next₀ q₀ t6 out next q = chartShares - q
@@ -30,7 +30,7 @@ on-first : (c : tie.After-slice-known Inv-loop μ-loop) → OnChart (c .before .
 on-first c = record { some-stage = omega arith; few-stages = omega arith; some-share = omega arith; few-shares = omega arith }
 
 first-length : (c : tie.After-entry Inv-loop μ-loop) → length (decimal (c .entry .result)) ≤ 5
-first-length c = rw (c .entry .ensures) (cell-length _ 1 (on-first (c .before)))
+first-length c = rw (c .entry .ensures) (printed-length _ 1 (on-first (c .before)))
 
 -- A number that a turn puts.
 abbrev start : tie.At-loop Inv-loop μ-loop → tie.Start Inv-loop μ-loop
@@ -43,7 +43,7 @@ on-turn : (c : tie.After-put-field-arg Inv-loop μ-loop) → OnChart (start (c .
 on-turn c = record { some-stage = omega arith; few-stages = omega arith; some-share = omega arith; few-shares = omega arith }
 
 turn-length : (c : tie.After-entry2 Inv-loop μ-loop) → length (decimal (c .entry2 .result)) ≤ 5
-turn-length c = rw (c .entry2 .ensures) (cell-length _ _ (on-turn (c .before)))
+turn-length c = rw (c .entry2 .ensures) (printed-length _ _ (on-turn (c .before)))
 
 entry-requires : tie.Need-entry-requires Inv-loop μ-loop
 entry-requires c κs = on-first c
@@ -78,7 +78,7 @@ loop-again : tie.Need-loop-again Inv-loop μ-loop
 loop-again c =
     let p = c .before .before .before .before in
     let l = turn p .loop in
-    let put = later-put space (cell (start (turn p) .args .s)) (l .q) (omega arith) (l .inv .4) (rw (p .entry2 .ensures) at (c .before .before .put-field .ensures)) in
+    let put = later-put space (printedEntry (start (turn p) .args .s)) (l .q) (omega arith) (l .inv .4) (rw (p .entry2 .ensures) at (c .before .before .put-field .ensures)) in
     (omega arith, omega arith, omega arith, omega (arith, turn-length p), put)
 
 same-length : tie.Need-same-length Inv-loop μ-loop
@@ -90,7 +90,7 @@ returns c =
     let l = c .before .loop in
     let p = c .before .before .before .before in
     let first = rw (p .before .before .entry .ensures) at (p .put-number .ensures) in
-    (between-put space (cell (start (c .before) .args .s)) chartShares (omega arith) (l .q) (omega arith) first (l .inv .4), omega arith)
+    (between-put space (printedEntry (start (c .before) .args .s)) chartShares (omega arith) (l .q) (omega arith) first (l .inv .4), omega arith)
 
 pub put-row-spec : {M : Type 1} → statement M
 put-row-spec =

@@ -9,7 +9,7 @@ use Rattle.rules.specs.Text.{lineFeed}
 use Rattle.rules.specs.Chart.{chartRow, chartText, numbersIn, printed-table}
 use Rattle.text.specs.Placing.{Placed}
 use Rattle.chart_text.specs.Length.{maxRow}
-use Rattle.text.proofs.Joining.{joined, front, opening}
+use Rattle.text.proofs.Joining.{joined, at-front, opening}
 use Rattle.text.proofs.Joining as joining
 use Rattle.text.proofs.Separated.{later, later-start, later-put, between-put}
 use Rattle.chart_text.proofs.write_chart.Statement.{statement}
@@ -80,7 +80,7 @@ returns c =
     let l = feed .before .before .before .before in
     let lines = between-put lineFeed chartRow maxStages (omega arith) (l .loop .s) (omega arith) (first l .put-row .ensures .0) (l .loop .inv .4) in
     let chart = joined lines (feed .put2 .ensures) in
-    let f = front chart in
+    let f = at-front chart in
     (f .0, (f .1 .0, (f .1 .1, ap numbersIn (opening chart) ∙ printed-table)))
 
 pub write-chart-spec : {M : Type 1} → statement M

@@ -5,7 +5,7 @@ use mathlib.Core.Path.{_≡_, sym, ap, _∙_}
 use native.Mathlib.Omega.{arith}
 use lib.ListN.{length}
 use Rattle.words.specs.Words.{netIn}
-use Rattle.costs.specs.Pricing.{planCostTo, plan-none, plan-all}
+use Rattle.costs.specs.Priced.{costTo, cost-none, costUnder, plan-cost-all}
 use Rattle.costs.proofs.Turns.{CostTurn, cost-turn}
 use Rattle.costs.proofs.plan_cost.Statement.{statement}
 use Rattle.costs.proofs.plan_cost.Tie as tie
@@ -15,7 +15,7 @@ use Rattle.words.proofs.edge_cost.Reads as edge-cost-reads
 use Rattle.tree.proofs.wide.Reads as wide-reads
 
 abbrev Inv-loop : tie.InvT-loop
-Inv-loop words nodes stage plan total₀ j₀ total j = (1 ≤ j) × (j ≤ nodes + 1) × (total ≡ planCostTo (netIn words) plan (j - 1))
+Inv-loop words nodes stage plan total₀ j₀ total j = (1 ≤ j) × (j ≤ nodes + 1) × (total ≡ costTo (costUnder (netIn words) plan) (j - 1))
 
 abbrev μ-loop : tie.MeasureT-loop
 μ-loop words nodes stage plan total₀ j₀ total j = nodes + 1 - j
@@ -26,7 +26,7 @@ here : (c : tie.In-loop Inv-loop μ-loop)
 here c = let s = c .before .before .before .before .before .pre in cost-turn (s .0 .1) (s .1 .1) (s .2) (c .before .loop .inv .0) (c .loop-test .taken)
 
 loop-holds : tie.Need-loop-holds Inv-loop μ-loop
-loop-holds c = (search needs, search needs, sym (plan-none _ _))
+loop-holds c = (search needs, search needs, sym (cost-none _))
 
 mul-wide : tie.Need-mul-wide Inv-loop μ-loop
 mul-wide c = omega (arith, here (c) .node-in)
@@ -88,7 +88,7 @@ returns c =
       c .loop-test .left,
       s .1 .nodes-are,
     ) in
-    c .before .loop .inv .2 ∙ (ap (planCostTo _ _) e ∙ plan-all _ _)
+    c .before .loop .inv .2 ∙ (ap (costTo _) e ∙ plan-cost-all _ _)
 
 pub plan-cost-spec : {M : Type 1} → statement M
 plan-cost-spec =

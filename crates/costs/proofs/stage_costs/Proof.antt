@@ -1,10 +1,11 @@
 -- `stage_costs` is right: before node j the table holds the costs of the edges before it, stage by stage.
 use borrow.Author.Needs.{needs}
-use Prim.Native.Nat.{_+_, _-_}
+use Prim.Native.Nat.{_+_, _-_, _*_}
 use mathlib.Core.Path.{sym, _∙_, ap}
 use native.Mathlib.Omega.{arith}
 use lib.ListN.{length, length-replicate}
 use Prim.Native.Nat.{ℕ}
+use Rattle.rules.specs.Bytes.{maxLayers, maxStages}
 use Rattle.words.specs.Words.{netIn}
 use Rattle.words.specs.Held.{held-accepted}
 use Rattle.costs.specs.Pricing.{Pricing, pricing-start, pricing-end}
@@ -61,7 +62,9 @@ loop-again c =
     (c .before .before .add-costs .ensures)
 
 same-length : tie.Need-same-length Inv-loop μ-loop
-same-length c = c .before .loop .inv .long ∙ sym (ap length (c .before .before .before .before .before .pre .3) ∙ length-replicate {A = ℕ} 1024 0)
+same-length c =
+    c .before .loop .inv .long ∙
+    sym (ap length (c .before .before .before .before .before .pre .3) ∙ length-replicate {A = ℕ} (maxStages * maxLayers) 0)
 
 returns : tie.Need-returns Inv-loop μ-loop
 returns c =

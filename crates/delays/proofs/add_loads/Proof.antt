@@ -4,7 +4,7 @@ use Prim.Native.Nat.{_-_, _+_, _*_}
 use native.Mathlib.Omega.{arith}
 use Rattle.words.specs.Words.{netIn}
 use Rattle.words.specs.Held.{held-accepted}
-use Rattle.delays.specs.Tables.{entry, Filling, fill-start, fill-end}
+use Rattle.slices.specs.Rows.{entry, Setting, setting-start, setting-end}
 use Rattle.delays.specs.Edges.{addedOn}
 use Rattle.delays.proofs.Rows.{LoadAdded, load-added, columns-few}
 use Rattle.delays.proofs.add_loads.Statement.{statement}
@@ -16,7 +16,7 @@ use Rattle.words.proofs.unit_cap.Reads as unit-cap-reads
 
 abbrev Inv-loop : tie.InvT-loop
 Inv-loop words columns len kind layer j parent load₀ c₀ load c =
-    Filling columns load₀ load parent c (λ k. entry columns load₀ parent k + addedOn (netIn words) columns load₀ len kind layer j k)
+    Setting 0 columns load₀ load parent columns c (λ k. entry columns load₀ parent k + addedOn (netIn words) columns load₀ len kind layer j k)
 
 abbrev μ-loop : tie.MeasureT-loop
 μ-loop words columns len kind layer j parent load₀ c₀ load c = columns - c
@@ -33,7 +33,7 @@ here c =
     (c .loop-test .taken)
 
 loop-holds : tie.Need-loop-holds Inv-loop μ-loop
-loop-holds c = fill-start _ _ _ _
+loop-holds c = setting-start _ _ _ _
 
 add-unit-cap : tie.Need-add-unit-cap Inv-loop μ-loop
 add-unit-cap c =
@@ -133,7 +133,7 @@ same-length : tie.Need-same-length Inv-loop μ-loop
 same-length c = c .before .loop .inv .so-far .long
 
 returns : tie.Need-returns Inv-loop μ-loop
-returns c = fill-end (c .before .loop .inv) (c .loop-test .left)
+returns c = setting-end (c .before .loop .inv) (c .loop-test .left)
 
 pub add-loads-spec : {M : Type 1} → statement M
 add-loads-spec =

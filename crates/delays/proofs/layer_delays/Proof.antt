@@ -1,6 +1,8 @@
 -- `layer_delays` is right: zeros give each stage all layers as its columns, from layer 0 on.
 use borrow.Author.Needs.{needs}
+use Prim.Native.Nat.{_+_, _*_}
 use native.Mathlib.Omega.{arith}
+use Rattle.rules.specs.Bytes.{maxLayers, maxNodes, maxStages}
 use Rattle.words.specs.Held.{held-accepted}
 use Rattle.delays.specs.Columns.{zeros, layer-columns}
 use Rattle.delays.specs.Loaded.{unloaded-zeros}
@@ -24,7 +26,7 @@ loads-requires c κs =
       (_, s .0),
       s .1,
       layer-columns (held-accepted (s .0)) (s .0 .layers-are),
-      unloaded-zeros _ 4096 (omega (
+      unloaded-zeros _ ((maxNodes + 1) * maxLayers) (omega (
         arith,
         held-accepted (s .0) .few-layers,
         s .0 .layers-are,
@@ -56,7 +58,7 @@ same-length : tie.Need-same-length
 same-length c = search needs
 
 returns : tie.Need-returns
-returns c = layer-delays (zeros 64) (c .before .before .delays .ensures)
+returns c = layer-delays (zeros maxStages) (c .before .before .delays .ensures)
 
 pub layer-delays-spec : {M : Type 1} → statement M
 layer-delays-spec =

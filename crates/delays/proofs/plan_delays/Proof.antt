@@ -1,6 +1,8 @@
 -- `plan_delays` is right: the plan gives each stage one column, its layer, and in a table of one column entry j is that of node j.
 use borrow.Author.Needs.{needs}
+use Prim.Native.Nat.{_+_}
 use native.Mathlib.Omega.{arith}
+use Rattle.rules.specs.Bytes.{maxNodes}
 use Rattle.delays.specs.Columns.{plan-columns}
 use Rattle.delays.specs.Loaded.{unloaded-zeros}
 use Rattle.delays.specs.Delayed.{plan-delays}
@@ -15,7 +17,7 @@ slice-aggregate-loads : tie.Need-slice-aggregate-loads
 slice-aggregate-loads c = search needs
 
 loads-requires : tie.Need-loads-requires
-loads-requires c κs = let s = c .before .before .before .before .before .pre in (s .0, s .1, plan-columns (s .2), unloaded-zeros 1 256 (omega arith))
+loads-requires c κs = let s = c .before .before .before .before .before .pre in (s .0, s .1, plan-columns (s .2), unloaded-zeros 1 (maxNodes + 1) (omega arith))
 
 slice-aggregate-delays : tie.Need-slice-aggregate-delays
 slice-aggregate-delays c = search needs

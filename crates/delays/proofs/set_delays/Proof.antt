@@ -6,7 +6,7 @@ use Prim.Native.Nat.{_-_, _+_, _*_}
 use native.Mathlib.Omega.{arith}
 use Rattle.words.specs.Words.{netIn}
 use Rattle.words.specs.Held.{held-accepted}
-use Rattle.delays.specs.Tables.{Filling, fill-start, fill-end}
+use Rattle.slices.specs.Rows.{Setting, setting-start, setting-end}
 use Rattle.delays.specs.Delayed.{delayOn}
 use Rattle.delays.proofs.Rows.{DelaySet, delay-set, columns-few}
 use Rattle.delays.proofs.set_delays.Statement.{statement}
@@ -21,7 +21,7 @@ use Rattle.words.proofs.unit_res.Reads as unit-res-reads
 
 abbrev Inv-loop : tie.InvT-loop
 Inv-loop words columns gate len kind layer parent j load delay₀ c₀ delay c =
-    Filling columns delay₀ delay j c (delayOn (netIn words) columns load delay₀ gate len kind layer parent j)
+    Setting 0 columns delay₀ delay j columns c (delayOn (netIn words) columns load delay₀ gate len kind layer parent j)
 
 abbrev μ-loop : tie.MeasureT-loop
 μ-loop words columns gate len kind layer parent j load delay₀ c₀ delay c = columns - c
@@ -38,7 +38,7 @@ here c =
     (c .before .loop .inv) (c .loop-test .taken)
 
 loop-holds : tie.Need-loop-holds Inv-loop μ-loop
-loop-holds c = fill-start _ _ _ _
+loop-holds c = setting-start _ _ _ _
 
 mul-start-of : tie.Need-mul-start-of Inv-loop μ-loop
 mul-start-of c = let t = here (c) in omega (arith, t .upper-load .small)
@@ -184,7 +184,7 @@ same-length : tie.Need-same-length Inv-loop μ-loop
 same-length c = c .before .loop .inv .so-far .long
 
 returns : tie.Need-returns Inv-loop μ-loop
-returns c = fill-end (c .before .loop .inv) (c .loop-test .left)
+returns c = setting-end (c .before .loop .inv) (c .loop-test .left)
 
 pub set-delays-spec : {M : Type 1} → statement M
 set-delays-spec =

@@ -5,7 +5,7 @@ use mir.Facts.{toZ-ofZ}
 use Rattle.rules.specs.Text.{decimalZ}
 use Rattle.rules.specs.Program.{planLine}
 use Rattle.text.specs.Placing.{Placed}
-use Rattle.text.proofs.Joining.{joined, front, Within, within-start, within-more}
+use Rattle.text.proofs.Joining.{joined, at-front, Within, within-start, within-more}
 use Rattle.text.proofs.Decimal.{number-length}
 use Rattle.text.proofs.Times.{time-length}
 use Rattle.line.proofs.plan_line.Statement.{statement}
@@ -14,7 +14,7 @@ use Rattle.line.proofs.plan_line.Reads as reads
 use Rattle.line.proofs.plan_line.Lts as lts
 use Rattle.text.proofs.put.Reads as put-reads
 use Rattle.text.proofs.put_field.Reads as put-field-reads
-use Rattle.line.proofs.put_layers.Reads as put-layers-reads
+use Rattle.line.proofs.put_plan.Reads as put-plan-reads
 use Rattle.text.proofs.put_time.Reads as put-time-reads
 
 -- The way back from each part to the one before it.
@@ -30,7 +30,7 @@ slack-word-of c = c .before .before .before .before
 abbrev slack-of : tie.After-put2 → tie.After-put-time
 slack-of c = c .before .before .before .before .before
 
-abbrev plan-word-of : tie.After-put-layers → tie.After-put2
+abbrev plan-word-of : tie.After-put-plan → tie.After-put2
 plan-word-of c = c .before .before .before .before
 
 -- The entry, from each part.
@@ -49,7 +49,7 @@ entry-slack c = entry-slack-word (slack-word-of c)
 abbrev entry-plan-word : tie.After-put2 → tie.Start
 entry-plan-word c = entry-slack (slack-of c)
 
-abbrev entry-layers : tie.After-put-layers → tie.Start
+abbrev entry-layers : tie.After-put-plan → tie.Start
 entry-layers c = entry-plan-word (plan-word-of c)
 
 -- Where each part ends at the latest.
@@ -72,9 +72,9 @@ slack-put c = within-more 20 (slack-word-put (slack-word-of c)) (slack-placed c)
 plan-word-put : (c : tie.After-put2) → Within 84 (entry-plan-word c .args .out .now) (c .put2 .last .1 .0) (c .put2 .result)
 plan-word-put c = within-more 5 (slack-put (slack-of c)) (c .put2 .ensures) (omega arith)
 
-layers-put : (c : tie.After-put-layers) → Within 340 (entry-layers c .args .out .now) (c .put-layers .last .1 .0) (c .put-layers .result)
+layers-put : (c : tie.After-put-plan) → Within 340 (entry-layers c .args .out .now) (c .put-plan .last .1 .0) (c .put-plan .result)
 layers-put c =
-    let e = c .put-layers .ensures in
+    let e = c .put-plan .ensures in
     within-more 256 (plan-word-put (plan-word-of c)) (e .0) (omega (arith, e .0 .ends, e .1, entry-layers c .pre .0))
 
 slice-aggregate-put-field : tie.Need-slice-aggregate-put-field
@@ -117,8 +117,8 @@ put-requires-2 c κs =
     let w = slack-put p in
     omega (arith, w .short, w .long, entry-slack p .pre .1)
 
-put-layers-requires : tie.Need-put-layers-requires
-put-layers-requires c κs =
+put-plan-requires : tie.Need-put-plan-requires
+put-plan-requires c κs =
     let p = c .before .before .before in
     let w = plan-word-put p in
     omega (arith, w .short, w .long, entry-plan-word p .pre .0, entry-plan-word p .pre .1)
@@ -146,8 +146,8 @@ returns c =
     let cost = cost-of grain in
     let numbers = joined (cost .put-field .ensures) (grain .put-field2 .ensures) in
     let times = joined (joined numbers (slack-word .put .ensures)) (slack-placed slack) in
-    let stages = joined (joined times (plan-word .put2 .ensures)) (layers .put-layers .ensures .0) in
-    front (joined stages (c .before .before .put3 .ensures))
+    let stages = joined (joined times (plan-word .put2 .ensures)) (layers .put-plan .ensures .0) in
+    at-front (joined stages (c .before .before .put3 .ensures))
 
 pub plan-line-spec : {M : Type 1} → statement M
 plan-line-spec =
@@ -162,7 +162,7 @@ plan-line-spec =
     put-time-requires
     slice-aggregate-put-2
     put-requires-2
-    put-layers-requires
+    put-plan-requires
     slice-aggregate-put-3
     put-requires-3
     same-length

@@ -2,7 +2,7 @@
 use borrow.Author.Needs.{needs}
 use native.Mathlib.Omega.{arith}
 use Rattle.rules.specs.Program.{refusedLine}
-use Rattle.text.proofs.Joining.{joined, front}
+use Rattle.text.proofs.Joining.{joined, at-front}
 use Rattle.text.proofs.Decimal.{byte-length}
 use Rattle.line.proofs.refused_line.Statement.{statement}
 use Rattle.line.proofs.refused_line.Tie as tie
@@ -28,7 +28,7 @@ same-length c = search needs
 
 returns : tie.Need-returns
 unfolding refusedLine
-returns c = front (joined (c .before .before .before .before .before .before .before .put-field .ensures) (c .before .before .put .ensures))
+returns c = at-front (joined (c .before .before .before .before .before .before .before .put-field .ensures) (c .before .before .put .ensures))
 
 pub refused-line-spec : {M : Type 1} → statement M
 refused-line-spec =

@@ -6,7 +6,7 @@ use lib.Seq.{length-take-le}
 use Rattle.rules.specs.declared.Judged.{Judged}
 use Rattle.words.specs.Held.{held-accepted}
 use Rattle.planning.specs.Outcomes.{floor-low}
-use Rattle.planning.specs.Calls.{late-answer, short-answer, found, plan-fits, found-judged, slack-told}
+use Rattle.planning.specs.Calls.{late-answer, short-answer, served-net, plan-fits, found-judged, slack-told}
 use Rattle.planning.proofs.plan_by.Statement.{statement}
 use Rattle.planning.proofs.plan_by.Tie as tie
 use Rattle.planning.proofs.plan_by.Reads as reads
@@ -15,7 +15,7 @@ use Rattle.planning.proofs.plan_stages.Reads as plan-stages-reads
 use Rattle.planning.proofs.refused.Reads as refused-reads
 use Rattle.timing.proofs.judged_by.Reads as judged-by-reads
 
--- where the function starts
+-- Where the function starts.
 abbrev start : tie.After-plan-stages → tie.Start
 start c = c .before .before .before .before .before .before .before
 
@@ -53,7 +53,7 @@ mul-t25 : tie.Need-mul-t25
 mul-t25 c =
     let s = c .before .before .before .before .before .before .before .before in
     let G = start s .pre .0 in
-    let low = floor-low (held-accepted (G .held)) (found _ _ G (rw (c .before .before .before .outcome .given .1) at (s .plan-stages .ensures))) in
+    let low = floor-low (held-accepted (G .held)) (served-net _ _ G (rw (c .before .before .before .outcome .given .1) at (s .plan-stages .ensures))) in
     omega arith
 
 same-length : tie.Need-same-length

@@ -14,11 +14,11 @@ use Rattle.planning.proofs.numbers.Reads as numbers-reads
 use Rattle.search.proofs.plan_tree.Reads as plan-tree-reads
 use Rattle.words.proofs.arrival.Reads as arrival-reads
 
--- where the function starts
+-- Where the function starts.
 abbrev start : tie.After-arrival → tie.Start
 start c = c .before .before .before .before .before .before .before .before .before .before .before .before .before .before
 
--- the arrival time as the search has it
+-- The arrival time as the search has it.
 arrival-is : (c : tie.After-arrival) → toZ w64 (ofZ w64 (c .arrival .result)) ≡ netIn (start c .args .words .now) .driver .arrival
 arrival-is c = toZ-ofZ (sfits-of {w = w64} (c .arrival .ok)) ∙ c .arrival .ensures
 

@@ -1,6 +1,6 @@
 -- `answer_line` is right: a refusal prints its number, and an accepted answer is the choice of the definition, whose numbers the line takes.
 use borrow.Author.Needs.{needs}
-use mathlib.Core.Path.{_≡_, refl, ap, sym, _∙_}
+use mathlib.Core.Path.{_≡_, refl, sym}
 use Prim.Native.Nat.{_≤_}
 use native.Mathlib.Omega.{arith}
 use lib.ListN.{length}
@@ -8,7 +8,7 @@ use lib.Seq.{length-take-le}
 use mir.Syntax.{w64}
 use mir.Val.{SFits}
 use mir.Facts.{toZ-ofZ}
-use Rattle.program.proofs.Answers.{Line, refused-program, line-of, stages-told, stages-few, line-told}
+use Rattle.program.proofs.Answers.{Line, refused-program, line-of, stages-few, line-told}
 use Rattle.program.proofs.answer_line.Statement.{statement}
 use Rattle.program.proofs.answer_line.Tie as tie
 use Rattle.program.proofs.answer_line.Reads as reads

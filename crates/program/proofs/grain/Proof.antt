@@ -1,9 +1,7 @@
 -- `grain` is right: after i turns g is 2^i.
-use mathlib.Core.Path.{_≡_, refl, ap, sym, _∙_}
-use Prim.Native.Nat.{ℕ, suc, _≤_, _<_, _-_, _*_, _+_, _^_}
+use mathlib.Core.Path.{_≡_, refl, ap, _∙_}
+use Prim.Native.Nat.{ℕ, _≤_, _-_, _^_}
 use native.Mathlib.Omega.{arith}
-use native.Mathlib.Nat.{pow-suc}
-use Rattle.rules.specs.Grain.{maxExponent}
 use Rattle.program.proofs.Powers.{doubled, power-low}
 use Rattle.program.proofs.grain.Statement.{statement}
 use Rattle.program.proofs.grain.Tie as tie

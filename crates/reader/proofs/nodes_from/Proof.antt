@@ -6,19 +6,19 @@ use native.Mathlib.Omega.{arith}
 use lib.ListN.{length, length-set}
 use Rattle.laws.specs.Booleans.{bit-le}
 use Rattle.rules.specs.Tree.{isSink}
-use Rattle.reader.specs.Nodes.{Taken, stepTaken, stepRefusal}
-use Rattle.reader.proofs.Loop.{Going, Turn, going-start, going-took, going-no, nodes-refused, nodes-read}
+use Rattle.nodes.specs.Steps.{Taken, stepTaken, stepRefusal}
+use Rattle.reader.proofs.Loop.{ReadSoFar, NodeTurn, read-start, read-took, read-no, nodes-refused, nodes-read}
 use Rattle.reader.proofs.nodes_from.Statement.{statement}
 use Rattle.reader.proofs.nodes_from.Tie as tie
 use Rattle.reader.proofs.nodes_from.Reads as reads
 use Rattle.reader.proofs.nodes_from.Lts as lts
 use Rattle.reader.proofs.buffer_bit.Reads as buffer-bit-reads
-use Rattle.reader.proofs.node_at.Reads as node-at-reads
+use Rattle.nodes.proofs.read_node.Reads as read-node-reads
 use Rattle.reader.proofs.sink_places.Reads as sink-places-reads
-use Rattle.reader.proofs.step_refusal.Reads as step-refusal-reads
+use Rattle.nodes.proofs.step_refusal.Reads as step-refusal-reads
 
 abbrev Inv-loop : tie.InvT-loop
-Inv-loop net first layers keep words₀ kids₀ at₀ count₀ buffers₀ words kids at count buffers = Going net layers first keep words₀ words kids at count buffers
+Inv-loop net first layers keep words₀ kids₀ at₀ count₀ buffers₀ words kids at count buffers = ReadSoFar net layers first keep words₀ words kids at count buffers
 
 abbrev μ-loop : tie.MeasureT-loop
 μ-loop net first layers keep words₀ kids₀ at₀ count₀ buffers₀ words kids at count buffers = length net - at
@@ -35,19 +35,19 @@ abbrev taken : tie.After-known-told Inv-loop μ-loop → Taken
 taken c = record { node = c .before .step .given .0 .0; next = c .before .step .given .0 .1 .0 }
 
 turn : (c : tie.After-known-told Inv-loop μ-loop)
-    → Turn (start c .args .net .now) (start c .args .layers) (start c .args .first) (start c .args .keep) (start c .args .words .now) (top c .loop .words)
+    → NodeTurn (start c .args .net .now) (start c .args .layers) (start c .args .first) (start c .args .keep) (start c .args .words .now) (top c .loop .words)
     (top c .loop .kids) (top c .loop .at) (top c .loop .count) (top c .loop .buffers) (taken c)
-    (c .before .before .before .before .before .node-at .last .1 .1 .1 .1 .1 .1 .1 .0)
-turn c = going-took (top c .loop .inv) (c .before .before .before .before .before .before .before .before .loop-test .taken)
-    (c .before .before .before .before .before .node-at .ensures) (sym (ap stepTaken (c .before .step .given .1)))
-    (c .before .before .before .before .before .node-at .kept .1 .1 .1 .1 .1 .1 .1 .0)
+    (c .before .before .before .before .before .read-node .last .1 .1 .1 .1 .1 .1 .1 .0)
+turn c = read-took (top c .loop .inv) (c .before .before .before .before .before .before .before .before .loop-test .taken)
+    (c .before .before .before .before .before .read-node .ensures) (sym (ap stepTaken (c .before .step .given .1)))
+    (c .before .before .before .before .before .read-node .kept .1 .1 .1 .1 .1 .1 .1 .0)
 
 loop-holds : tie.Need-loop-holds Inv-loop μ-loop
-loop-holds c = going-start _ _ _ (c .before .before .before .pre .1) (c .before .before .before .pre .2) (c .before .before .before .pre .0)
+loop-holds c = read-start _ _ _ (c .before .before .before .pre .1) (c .before .before .before .pre .2) (c .before .before .before .pre .0)
     (c .before .before .before .pre .3)
 
-node-at-requires : tie.Need-node-at-requires Inv-loop μ-loop
-node-at-requires c κs = (
+read-node-requires : tie.Need-read-node-requires Inv-loop μ-loop
+read-node-requires c κs = (
   c .before .before .before .before .before .before .before .pre .0,
   c .before .before .before .loop .inv .inside,
   c .before .before .before .loop .inv .kids-long,
@@ -64,7 +64,7 @@ step-refusal-requires : tie.Need-step-refusal-requires Inv-loop μ-loop
 step-refusal-requires c κs = search needs
 
 same-length : tie.Need-same-length Inv-loop μ-loop
-same-length c = c .before .before .before .before .before .node-at .kept .1 .1 .1 .1 .1 .1 .1 .0 ∙
+same-length c = c .before .before .before .before .before .read-node .kept .1 .1 .1 .1 .1 .1 .1 .0 ∙
     c .before .before .before .before .before .before .before .before .before .loop .inv .same-size
 
 same-length-2 : tie.Need-same-length-2 Inv-loop μ-loop
@@ -77,9 +77,9 @@ same-length-2 c = omega (
 returns : tie.Need-returns Inv-loop μ-loop
 returns c =
     nodes-refused _ _ _ _ _ _ _ (c .step-refusal .ensures ∙ ap stepRefusal (c .before .enum-told .given .1))
-    (going-no (c .before .before .before .before .before .before .before .before .before .loop .inv)
+    (read-no (c .before .before .before .before .before .before .before .before .before .loop .inv)
     (c .before .before .before .before .before .before .before .before .loop-test .taken)
-    (sym (ap stepTaken (c .before .enum-told .given .1)) ∙ c .before .before .before .before .before .node-at .ensures .answer))
+    (sym (ap stepTaken (c .before .enum-told .given .1)) ∙ c .before .before .before .before .before .read-node .ensures .answer))
 
 mul-kids : tie.Need-mul-kids Inv-loop μ-loop
 mul-kids c = let t = turn c in omega arith
@@ -139,7 +139,7 @@ nodes-from-spec =
     Inv-loop
     μ-loop
     loop-holds
-    node-at-requires
+    read-node-requires
     enum-known-step
     enum-told
     step-refusal-requires

@@ -10,7 +10,7 @@ use Rattle.rules.specs.Bytes.{Field, maxNodes, dueDriver, driverAt, isDriver}
 use Rattle.rules.specs.Reading.{field, accept}
 use Rattle.fields.specs.Fields.{foundField, foundRefusal}
 use Rattle.fields.proofs.Laws.{Inside, field-inside}
-use Rattle.words.specs.Words.{rowAt}
+use Rattle.words.specs.Words.{nodeRow}
 use Rattle.reader.specs.Nodes.{nodesRefusal}
 use Rattle.reader.proofs.Stored.{rows-kept}
 use Rattle.reader.proofs.Whole.{driver-size, tree-gave, rest-1, rest-2, rest-3, rest-4}
@@ -50,7 +50,7 @@ ok c = sym (c .before .before .before .put-driver .ensures .answer) ∙ not-fals
 few : (c : tie.After-known-told2) → (c .before .nodes .given .0 .0 ≤ maxNodes) × (c .before .nodes .given .0 .1 .0 ≤ maxNodes)
 few c = let g = tree-gave (rw (c .before .nodes .given .1) at (c .before .before .before .before .before .tree-from .ensures)) in (g .few, g .fewer)
 
-long : (c : tie.After-known-told2) → rowAt 1 ≤ length (c .before .before .before .before .before .tree-from .last .1 .1 .1 .1 .0)
+long : (c : tie.After-known-told2) → nodeRow 1 ≤ length (c .before .before .before .before .before .tree-from .last .1 .1 .1 .1 .0)
 long c = omega (
   arith,
   start (c .before .before .before .before .before .before .before .before .before .before .before .before) .pre .2 .some,

@@ -8,7 +8,7 @@ use Rattle.readoff.proofs.driven_need.Statement.{statement}
 use Rattle.readoff.proofs.driven_need.Tie as tie
 use Rattle.readoff.proofs.driven_need.Reads as reads
 use Rattle.readoff.proofs.driven_need.Lts as lts
-use Rattle.readoff.proofs.first_column.Reads as first-column-reads
+use Rattle.readoff.proofs.least_column.Reads as least-column-reads
 use Rattle.readoff.proofs.reached_at.Reads as reached-at-reads
 
 reached-at-requires : tie.Need-reached-at-requires
@@ -26,17 +26,17 @@ mul-end c = search needs
 shared-slice-read-end : tie.Need-shared-slice-read-end
 shared-slice-read-end c = search needs
 
-mul-first-column : tie.Need-mul-first-column
-mul-first-column c = search needs
+mul-least-column : tie.Need-mul-least-column
+mul-least-column c = search needs
 
-first-column-requires : tie.Need-first-column-requires
-first-column-requires c κs = search needs
+least-column-requires : tie.Need-least-column-requires
+least-column-requires c κs = search needs
 
 returns : tie.Need-returns
 returns c =
     let reached = c .before .before .before .reached-at in
     let is = rw (toZ-ofZ (c .before .before .before .before .before .before .before .fits .t)) at (reached .ensures) in
-    rw (toZ-ofZ {w = w64} {z = reached .result} (sfits-of (reached .ok)) ∙ is) at (c .first-column .ensures)
+    rw (toZ-ofZ {w = w64} {z = reached .result} (sfits-of (reached .ok)) ∙ is) at (c .least-column .ensures)
 
 pub driven-need-spec : {M : Type 1} → statement M
 driven-need-spec =
@@ -47,6 +47,6 @@ driven-need-spec =
     shared-slice-read-start
     mul-end
     shared-slice-read-end
-    mul-first-column
-    first-column-requires
+    mul-least-column
+    least-column-requires
     returns)

@@ -11,14 +11,19 @@ use Rattle.readoff.proofs.layer_for.Statement.{statement}
 use Rattle.readoff.proofs.layer_for.Tie as tie
 use Rattle.readoff.proofs.layer_for.Reads as reads
 use Rattle.readoff.proofs.layer_for.Lts as lts
-use Rattle.readoff.proofs.first_column.Reads as first-column-reads
+use Rattle.readoff.proofs.least_column.Reads as least-column-reads
 use Rattle.readoff.proofs.need_on.Reads as need-on-reads
 
 abbrev Inv-loop : tie.InvT-loop
-Inv-loop table driver first next delay limit cost starts ends stages layers width g i t start end least l₀ l = Trying table driver first next delay limit cost starts ends stages layers width g i (toZ w64 t) l
+Inv-loop table driver first next delay limit cost starts ends n i t start end least l₀ l =
+    Trying table driver first next delay limit cost starts ends (n .stages) (n .layers) (n .width) (n .grain) i (toZ w64 t) l
 
 abbrev μ-loop : tie.MeasureT-loop
-μ-loop table driver first next delay limit cost starts ends stages layers width g i t start end least l₀ l = layers - l
+μ-loop table driver first next delay limit cost starts ends n i t start end least l₀ l = n .layers - l
+
+-- The start of the call, from after the look-up of the least.
+abbrev start : tie.After-least-column Inv-loop μ-loop → tie.Start Inv-loop μ-loop
+start f = f .before .before .before .before .before .before .before .before .before .before .before
 
 mul-start : tie.Need-mul-start Inv-loop μ-loop
 mul-start c = search needs
@@ -32,32 +37,35 @@ mul-end c = search needs
 shared-slice-read-end : tie.Need-shared-slice-read-end Inv-loop μ-loop
 shared-slice-read-end c = search needs
 
-mul-first-column : tie.Need-mul-first-column Inv-loop μ-loop
-mul-first-column c =
-    let s = c .before .before .before .before .before .before .before .before .before in
+mul-least-column : tie.Need-mul-least-column Inv-loop μ-loop
+mul-least-column c =
+    let s = c .before .before .before .before .before .before .before .before .before .before in
     record { fits = omega (arith, row-inside _ _ _ (s .pre .0 .1 .rows-long) (s .pre .1), s .good .0 .1) }
 
-first-column-requires : tie.Need-first-column-requires Inv-loop μ-loop
-first-column-requires c κs =
-    let p = c .before .before .before .before .before .before .before .before .before .pre in
-    (p .0 .1 .some-column, p .0 .1 .order (c .before .before .before .before .before .before .before .before .before .args .i) (p .1), p .0 .1 .end-most (c .before .before .before .before .before .before .before .before .before .args .i) (p .1), row-inside _ _ _ (p .0 .1 .rows-long) (p .1))
+least-column-requires : tie.Need-least-column-requires Inv-loop μ-loop
+least-column-requires c κs =
+    let s = c .before .before .before .before .before .before .before .before .before .before in
+    let S = s .pre .0 .1 in
+    let i = s .args .i in
+    (S .some-column, S .order i (s .pre .1), S .end-most i (s .pre .1), row-inside _ _ _ (S .rows-long) (s .pre .1))
 
 loop-holds : tie.Need-loop-holds Inv-loop μ-loop
-loop-holds c = let p = c .before .before .before .before .before .before .before .before .before .before .pre in trying-start (omega (arith, p .0 .1 .tree .some-layer, p .0 .2))
+loop-holds c = let P = start c .pre in trying-start (omega (arith, P .0 .1 .tree .some-layer, P .0 .2))
 
-add-loop : tie.Need-add-loop Inv-loop μ-loop
-add-loop c = search needs
+add-if1 : tie.Need-add-if1 Inv-loop μ-loop
+add-if1 c = search needs
 
 need-on-requires : tie.Need-need-on-requires Inv-loop μ-loop
 need-on-requires c κs =
-    let s = c .before .before .before .before .before .before .before .before .before .before .before .before in
+    let s = start (c .before .before .before) in
     ((s .pre .0 .0, s .pre .0 .1, omega arith), s .pre .1, rw (toZ-ofZ (s .fits .t)) (s .pre .2))
 
 returns : tie.Need-returns Inv-loop μ-loop
 returns c =
-    let s = c .before .before .before .before .before .before .before .before .before .before .before .before .before .before in
-    let first = c .before .before .before .before .first-column in
-    rw (toZ-ofZ (s .fits .t)) at (trying-found (c .before .before .before .loop .inv) (s .pre .1) (first .ensures) (c .before .need-on .ensures) (omega arith))
+    let f = c .before .before .before .before .before in
+    let s = start f in
+    rw (toZ-ofZ (s .fits .t)) at
+    (trying-found (c .before .before .before .before .loop .inv) (s .pre .1) (f .least-column .ensures) (c .before .need-on .ensures) (omega arith))
 
 add-l : tie.Need-add-l Inv-loop μ-loop
 add-l c = search needs
@@ -67,12 +75,12 @@ loop-less c = search needs
 
 loop-again : tie.Need-loop-again Inv-loop μ-loop
 loop-again c =
-    let s = c .before .before .before .before .before .before .before .before .before .before .before .before .before .before in
-    let first = c .before .before .before .before .first-column in
-    trying-more (c .before .before .before .loop .inv) (s .pre .1) (first .ensures) (c .before .need-on .ensures) (omega arith) (omega arith)
+    let f = c .before .before .before .before .before in
+    trying-more (c .before .before .before .before .loop .inv) (start f .pre .1) (f .least-column .ensures) (c .before .need-on .ensures) (omega arith)
+    (omega arith)
 
 returns-2 : tie.Need-returns-2 Inv-loop μ-loop
-returns-2 c = let s = c .before .before .before .before .before .before .before .before .before .before .before .before in rw (toZ-ofZ (s .fits .t)) at (trying-end (c .before .loop .inv) (s .pre .1) (omega arith))
+returns-2 c = let s = start (c .before .before .before) in rw (toZ-ofZ (s .fits .t)) at (trying-end (c .before .before .loop .inv) (s .pre .1) (omega arith))
 
 pub layer-for-spec : {M : Type 1} → statement M
 layer-for-spec =
@@ -84,10 +92,10 @@ layer-for-spec =
     shared-slice-read-start
     mul-end
     shared-slice-read-end
-    mul-first-column
-    first-column-requires
+    mul-least-column
+    least-column-requires
     loop-holds
-    add-loop
+    add-if1
     need-on-requires
     returns
     add-l

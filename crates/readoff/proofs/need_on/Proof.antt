@@ -1,16 +1,16 @@
--- `need_on` is right: it adds the rounded cost and what the stages driven need, up to one more than the budgets, and the links pass over none; a late sink is above them all.
+-- `need_on` is right: it adds the rounded cost and what the stages driven need, up to one more than the budgets, and the links pass over none; a late
+-- sink is above them all.
 use borrow.Author.Needs.{needs}
 use mathlib.Core.Path.{_≡_}
 use native.Mathlib.Omega.{arith}
-use Prim.Native.Nat.{_-_, _+_, _*_}
-use lib.IntN.{ℤ, pos}
-use lib.ListN.{getD}
+use Prim.Native.Nat.{_-_}
+use lib.IntN.{ℤ}
 use borrow.Author.Needs.{sfits-of}
 use mir.Facts.{toZ-ofZ}
 use mir.Syntax.{w64}
 use mir.Val.{toZ, ofZ}
-use Rattle.rules.specs.Bytes.{maxLayers}
-use Rattle.readoff.proofs.Needs.{Adding, driven-in, adding-start, adding-more, adding-fits, adding-end, need-late}
+use Rattle.slices.specs.Laid.{limitOn}
+use Rattle.readoff.proofs.Needs.{NeedSoFar, driven-in, need-start, need-more, adding-fits, adding-end, need-late}
 use Rattle.readoff.proofs.need_on.Statement.{statement}
 use Rattle.readoff.proofs.need_on.Tie as tie
 use Rattle.readoff.proofs.need_on.Reads as reads
@@ -18,14 +18,19 @@ use Rattle.readoff.proofs.need_on.Lts as lts
 use Rattle.readoff.proofs.driven_need.Reads as driven-need-reads
 
 abbrev Inv-loop : tie.InvT-loop
-Inv-loop table driver first next delay limit cost starts ends stages width g i l t at last need₀ j₀ need j = Adding table driver first next delay limit cost starts ends stages width g i l (toZ w64 t) need j
+Inv-loop table driver first next delay limit cost starts ends n i l t at last need₀ j₀ need j =
+    NeedSoFar table driver first next delay limit cost starts ends (n .stages) (n .width) (n .grain) i l (toZ w64 t) need j
 
 abbrev μ-loop : tie.MeasureT-loop
-μ-loop table driver first next delay limit cost starts ends stages width g i l t at last need₀ j₀ need j = stages - j
+μ-loop table driver first next delay limit cost starts ends n i l t at last need₀ j₀ need j = n .stages - j
+
+-- The start of the call, from the loop.
+abbrev start : tie.At-loop Inv-loop μ-loop → tie.Start Inv-loop μ-loop
+start l = l .before .before .before .before .before .before .before .before .before .before .before .before .before
 
 -- the limit that is compared
 abbrev last : tie.After-last Inv-loop μ-loop → ℤ
-last c = let a = c .before .before .before .before .before .before .before .before .args in getD (a .limit .now) (a .i * maxLayers + a .l) (pos 0)
+last c = let a = c .before .before .before .before .before .before .before .before .args in limitOn (a .limit .now) (a .i) (a .l)
 
 last-is : (c : tie.After-last Inv-loop μ-loop) → toZ w64 (ofZ w64 (last c)) ≡ last c
 last-is c = toZ-ofZ (sfits-of (c .last .given))
@@ -63,17 +68,19 @@ shared-slice-read-j : tie.Need-shared-slice-read-j Inv-loop μ-loop
 shared-slice-read-j c = search needs
 
 loop-holds : tie.Need-loop-holds Inv-loop μ-loop
-loop-holds c = let p = c .before .before .before .before .before .before .before .before .before .before .before .pre in adding-start (p .0 .0) (p .0 .1) (p .0 .2) (p .1)
+loop-holds c =
+    let P = c .before .before .before .before .before .before .before .before .before .before .before .before .pre in
+    need-start (P .0 .0) (P .0 .1) (P .0 .2) (P .1)
 
 driven-need-requires : tie.Need-driven-need-requires Inv-loop μ-loop
 driven-need-requires c κs =
-    let s = c .before .before .before .before .before .before .before .before .before .before .before .before .before in
+    let s = start (c .before .before) in
     driven-in (s .pre .0 .0) (s .pre .0 .1) (s .pre .0 .2) (omega arith) (omega arith) (rw (toZ-ofZ (s .fits .t)) (s .pre .2))
 
 add-need : tie.Need-add-need Inv-loop μ-loop
 add-need c =
-    let s = c .before .before .before .before .before .before .before .before .before .before .before .before .before .before in
-    record { fits = adding-fits (c .before .before .loop .inv) (omega arith) (c .driven-need .ensures) (s .pre .0 .1 .rows-long) (s .good .0 .1) }
+    let l = c .before .before .before in
+    record { fits = adding-fits (l .loop .inv) (omega arith) (c .driven-need .ensures) (start l .pre .0 .1 .rows-long) (start l .good .0 .1) }
 
 mul-j-2 : tie.Need-mul-j-2 Inv-loop μ-loop
 mul-j-2 c = search needs
@@ -82,20 +89,20 @@ shared-slice-read-j-2 : tie.Need-shared-slice-read-j-2 Inv-loop μ-loop
 shared-slice-read-j-2 c = search needs
 
 loop-less : tie.Need-loop-less Inv-loop μ-loop
-loop-less c =
-    let links = c .before .before .before .before .before .before .before .before .before .before .before .before .before .before .before .pre .0 .1 .linked in
-    omega (arith, links .next-is (c .before .before .before .loop .j) (omega arith) (omega arith) .low)
+loop-less c = let l = c .before .before .before .before in omega (arith, start l .pre .0 .1 .linked .next-is (l .loop .j) (omega arith) (omega arith) .low)
 
 loop-again : tie.Need-loop-again Inv-loop μ-loop
 loop-again c =
-    let p = c .before .before .before .before .before .before .before .before .before .before .before .before .before .before .before .pre in
-    adding-more (c .before .before .before .loop .inv) (p .0 .1 .some-column) (p .0 .1 .linked) (omega arith) (c .before .driven-need .ensures)
+    let l = c .before .before .before .before in
+    let S = start l .pre .0 .1 in
+    need-more (l .loop .inv) (S .some-column) (S .linked) (omega arith) (c .before .driven-need .ensures)
 
 returns-2 : tie.Need-returns-2 Inv-loop μ-loop
 returns-2 c =
-    let s = c .before .before .before .before .before .before .before .before .before .before .before .before .before in
-    adding-end (rw (toZ-ofZ (s .fits .t)) at (c .before .loop .inv)) (s .pre .0 .1 .some-column) (omega arith) (omega arith)
-    (rw (last-is (c .before .before .before .before .before), toZ-ofZ (s .fits .t)) at (c .before .before .before .before .if1 .left))
+    let l = c .before .before in
+    let s = start l in
+    adding-end (rw (toZ-ofZ (s .fits .t)) at (l .loop .inv)) (s .pre .0 .1 .some-column) (omega arith) (omega arith)
+    (rw (last-is (l .before .before .before .before .before), toZ-ofZ (s .fits .t)) at (l .before .before .before .before .if1 .left))
 
 pub need-on-spec : {M : Type 1} → statement M
 need-on-spec =

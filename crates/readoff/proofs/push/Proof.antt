@@ -8,7 +8,7 @@ use borrow.Author.Needs.{sfits-of}
 use mir.Facts.{toZ-ofZ}
 use mir.Syntax.{w64}
 use mir.Val.{toZ, ofZ}
-use Rattle.readoff.specs.Contracts.{timeAt}
+use Rattle.slices.specs.Laid.{timeAt}
 use Rattle.readoff.proofs.Times.{Pushing, pushing-start, pushing-more, pushing-end}
 use Rattle.readoff.proofs.push.Statement.{statement}
 use Rattle.readoff.proofs.push.Tie as tie
@@ -71,7 +71,8 @@ loop-again c =
     let p = c .before .before .before .before .before .before .before .before .before .before .pre in
     let reached = c .before .reached-at in
     let is = rw (time-is (c .before .before .before .before .before)) at (reached .ensures) in
-    pushing-more (p .linked) (c .before .before .before .loop .inv) (p .times-long) (omega arith) (toZ-ofZ {w = w64} {z = reached .result} (sfits-of (reached .ok)) ∙ is)
+    pushing-more (p .linked) (c .before .before .before .loop .inv) (p .times-long) (omega arith)
+    (toZ-ofZ {w = w64} {z = reached .result} (sfits-of (reached .ok)) ∙ is)
 
 same-length : tie.Need-same-length Inv-loop μ-loop
 same-length c = omega (arith, c .before .loop .inv .long)

@@ -13,7 +13,7 @@ use borrow.Author.Needs.{needs, sfits-of}
 use Rattle.rules.specs.Tree.{isTerminal}
 use Rattle.words.specs.declared.Node.{Node}
 use Rattle.required.specs.Timed.{Timed}
-use Rattle.required.proofs.Loop.{sizes, entered, Going, going-start, going-end, after-root, onward, going-skip, going-take, asked-fine}
+use Rattle.required.proofs.Loop.{sizes, entered, LeastSoFar, required-start, required-end, after-root, onward, required-skip, required-take, asked-fine}
 use Rattle.required.proofs.Loop.{at-steiner, at-sink, at-buffer, buffer-root}
 use Prim.Native.Nat.{ℕ, _+_, _-_, _*_, _<_}
 use borrow.Fn.Kinds.{In}
@@ -26,7 +26,7 @@ use Rattle.required.proofs.terminal_required.Kinds as terminal-required
 use Rattle.required.proofs.+stage_required+terminal_required.Lts-terminal_required as terminal-required-lts
 use Rattle.required.proofs.is_terminal.Reads as is-terminal-reads
 use Rattle.required.proofs.less.Reads as less-reads
-use Rattle.required.proofs.lesser.Reads as lesser-reads
+use Rattle.required.proofs.earlier.Reads as earlier-reads
 use Rattle.words.proofs.node_at.Reads as node-at-reads
 use Rattle.required.proofs.+stage_required+terminal_required.{statement}
 use Rattle.required.proofs.+stage_required+terminal_required.Tie.{close}
@@ -71,16 +71,9 @@ terminal-required-below t =
     (falls 5 terminal-required-kinds.ps _<_ μ-terminal-required t)
     terminal-required.Pre
 
--- Under every plan of which the tables tell, the loop has come to node j.
-abbrev stage-required-Inv-loop : stage-required-lts.InvT-loop
-stage-required-Inv-loop words nodes below first next delay i least₀ j₀ least j =
-    (plan : List ℕ) → Timed words nodes below first next delay plan → Going words plan nodes i j (toZ w64 least)
-
--- The nodes that remain fall.
-abbrev stage-required-μ-loop : stage-required-lts.MeasureT-loop
-stage-required-μ-loop words nodes below first next delay i least₀ j₀ least j = nodes + 1 - j
-
-stage-required-mul-j : (t : ℕ) → stage-required-lts.Need-mul-j (
+-- What each knows of the functions that it calls.
+abbrev stage-required-claims : ℕ → stage-required-lts.Claims
+stage-required-claims t = (
   node-at-reads.Asked,
   node-at-reads.Learnt,
   is-terminal-reads.Asked,
@@ -89,125 +82,66 @@ stage-required-mul-j : (t : ℕ) → stage-required-lts.Need-mul-j (
   terminal-required.Post,
   less-reads.Asked,
   less-reads.Learnt,
-  lesser-reads.Asked,
-  lesser-reads.Learnt,
-) (stage-required-at t) stage-required.Post stage-required-Inv-loop stage-required-μ-loop
+  earlier-reads.Asked,
+  earlier-reads.Learnt,
+)
+
+abbrev terminal-required-claims : ℕ → terminal-required-lts.Claims
+terminal-required-claims t = (stage-required-below t, stage-required.Post)
+
+-- Under every plan of which the tables tell, the loop has come to node j.
+abbrev Inv-loop : stage-required-lts.InvT-loop
+Inv-loop words nodes below first next delay i least₀ j₀ least j =
+    (plan : List ℕ) → Timed words nodes below first next delay plan → LeastSoFar words plan nodes i j (toZ w64 least)
+
+-- The nodes that remain fall.
+abbrev μ-loop : stage-required-lts.MeasureT-loop
+μ-loop words nodes below first next delay i least₀ j₀ least j = nodes + 1 - j
+
+stage-required-mul-j : (t : ℕ) → stage-required-lts.Need-mul-j (stage-required-claims t) (stage-required-at t) stage-required.Post Inv-loop μ-loop
 stage-required-mul-j t c =
     let s = c .before .before .before .before .before in
     let z = sizes (s .pre .1 .0 .1) in
     omega (arith, s .pre .1 .1)
 
-stage-required-shared-slice-read-j : (t : ℕ) → stage-required-lts.Need-shared-slice-read-j (
-  node-at-reads.Asked,
-  node-at-reads.Learnt,
-  is-terminal-reads.Asked,
-  is-terminal-reads.Learnt,
-  terminal-required-below t,
-  terminal-required.Post,
-  less-reads.Asked,
-  less-reads.Learnt,
-  lesser-reads.Asked,
-  lesser-reads.Learnt,
-) (stage-required-at t) stage-required.Post stage-required-Inv-loop stage-required-μ-loop
+stage-required-shared-slice-read-j :
+    (t : ℕ) → stage-required-lts.Need-shared-slice-read-j (stage-required-claims t) (stage-required-at t) stage-required.Post Inv-loop μ-loop
 stage-required-shared-slice-read-j t c =
     let s = c .before .before .before .before .before .before in
     let z = sizes (s .pre .1 .0 .1) in
     omega (arith, s .pre .1 .1)
 
-stage-required-mul-j-2 : (t : ℕ) → stage-required-lts.Need-mul-j-2 (
-  node-at-reads.Asked,
-  node-at-reads.Learnt,
-  is-terminal-reads.Asked,
-  is-terminal-reads.Learnt,
-  terminal-required-below t,
-  terminal-required.Post,
-  less-reads.Asked,
-  less-reads.Learnt,
-  lesser-reads.Asked,
-  lesser-reads.Learnt,
-) (stage-required-at t) stage-required.Post stage-required-Inv-loop stage-required-μ-loop
+stage-required-mul-j-2 : (t : ℕ) → stage-required-lts.Need-mul-j-2 (stage-required-claims t) (stage-required-at t) stage-required.Post Inv-loop μ-loop
 stage-required-mul-j-2 t c =
     let s = c .before .before .before .before .before .before in
     let z = sizes (s .pre .1 .0 .1) in
     let e = entered (s .pre .1 .0 .1) (s .pre .1 .1) (s .pre .1 .2) in
     omega arith
 
-stage-required-shared-slice-read-j-2 : (t : ℕ) → stage-required-lts.Need-shared-slice-read-j-2 (
-  node-at-reads.Asked,
-  node-at-reads.Learnt,
-  is-terminal-reads.Asked,
-  is-terminal-reads.Learnt,
-  terminal-required-below t,
-  terminal-required.Post,
-  less-reads.Asked,
-  less-reads.Learnt,
-  lesser-reads.Asked,
-  lesser-reads.Learnt,
-) (stage-required-at t) stage-required.Post stage-required-Inv-loop stage-required-μ-loop
+stage-required-shared-slice-read-j-2 :
+    (t : ℕ) → stage-required-lts.Need-shared-slice-read-j-2 (stage-required-claims t) (stage-required-at t) stage-required.Post Inv-loop μ-loop
 stage-required-shared-slice-read-j-2 t c =
     let s = c .before .before .before .before .before .before .before in
     let z = sizes (s .pre .1 .0 .1) in
     let e = entered (s .pre .1 .0 .1) (s .pre .1 .1) (s .pre .1 .2) in
     omega arith
 
-stage-required-loop-holds : (t : ℕ) → stage-required-lts.Need-loop-holds (
-  node-at-reads.Asked,
-  node-at-reads.Learnt,
-  is-terminal-reads.Asked,
-  is-terminal-reads.Learnt,
-  terminal-required-below t,
-  terminal-required.Post,
-  less-reads.Asked,
-  less-reads.Learnt,
-  lesser-reads.Asked,
-  lesser-reads.Learnt,
-) (stage-required-at t) stage-required.Post stage-required-Inv-loop stage-required-μ-loop
-stage-required-loop-holds t c = λ plan T. let s = c .before .before .before .before .before .before .before in going-start T (s .pre .1 .1) (s .pre .1 .2)
+stage-required-loop-holds : (t : ℕ) → stage-required-lts.Need-loop-holds (stage-required-claims t) (stage-required-at t) stage-required.Post Inv-loop μ-loop
+stage-required-loop-holds t c = λ plan T. let s = c .before .before .before .before .before .before .before in required-start T (s .pre .1 .1) (s .pre .1 .2)
 
-stage-required-node-at-requires : (t : ℕ) → stage-required-lts.Need-node-at-requires (
-  node-at-reads.Asked,
-  node-at-reads.Learnt,
-  is-terminal-reads.Asked,
-  is-terminal-reads.Learnt,
-  terminal-required-below t,
-  terminal-required.Post,
-  less-reads.Asked,
-  less-reads.Learnt,
-  lesser-reads.Asked,
-  lesser-reads.Learnt,
-) (stage-required-at t) stage-required.Post stage-required-Inv-loop stage-required-μ-loop
+stage-required-node-at-requires :
+    (t : ℕ) → stage-required-lts.Need-node-at-requires (stage-required-claims t) (stage-required-at t) stage-required.Post Inv-loop μ-loop
 stage-required-node-at-requires t c κs =
     let s = c .before .before .before .before .before .before .before .before .before in
     let (plan, T) = s .pre .1 .0 in
     (s .args .nodes, T .layers, T .held, c .before .loop .inv plan T .some, c .loop-test .taken)
 
-stage-required-is-terminal-requires : (t : ℕ) → stage-required-lts.Need-is-terminal-requires (
-  node-at-reads.Asked,
-  node-at-reads.Learnt,
-  is-terminal-reads.Asked,
-  is-terminal-reads.Learnt,
-  terminal-required-below t,
-  terminal-required.Post,
-  less-reads.Asked,
-  less-reads.Learnt,
-  lesser-reads.Asked,
-  lesser-reads.Learnt,
-) (stage-required-at t) stage-required.Post stage-required-Inv-loop stage-required-μ-loop
+stage-required-is-terminal-requires :
+    (t : ℕ) → stage-required-lts.Need-is-terminal-requires (stage-required-claims t) (stage-required-at t) stage-required.Post Inv-loop μ-loop
 stage-required-is-terminal-requires t c κs = search needs
 
 stage-required-terminal-required-requires :
-    (t : ℕ) → stage-required-lts.Need-terminal-required-requires (
-      node-at-reads.Asked,
-      node-at-reads.Learnt,
-      is-terminal-reads.Asked,
-      is-terminal-reads.Learnt,
-      terminal-required-below t,
-      terminal-required.Post,
-      less-reads.Asked,
-      less-reads.Learnt,
-      lesser-reads.Asked,
-      lesser-reads.Learnt,
-    ) (stage-required-at t) stage-required.Post stage-required-Inv-loop stage-required-μ-loop
+    (t : ℕ) → stage-required-lts.Need-terminal-required-requires (stage-required-claims t) (stage-required-at t) stage-required.Post Inv-loop μ-loop
 stage-required-terminal-required-requires t c κs =
     let s = c .before .before .before .before .before .before .before .before .before .before .before .before in
     let (plan, T) = s .pre .1 .0 in
@@ -216,52 +150,21 @@ stage-required-terminal-required-requires t c κs =
     let l = after-root T (s .pre .1 .1) (s .pre .1 .2) g b in
     (omega (arith, s .pre .0), ((plan, T), g .some, b, ap (λ (r : Node). r .kind) (c .before .before .node-at .ensures)))
 
-stage-required-mul-less : (t : ℕ) → stage-required-lts.Need-mul-less (
-  node-at-reads.Asked,
-  node-at-reads.Learnt,
-  is-terminal-reads.Asked,
-  is-terminal-reads.Learnt,
-  terminal-required-below t,
-  terminal-required.Post,
-  less-reads.Asked,
-  less-reads.Learnt,
-  lesser-reads.Asked,
-  lesser-reads.Learnt,
-) (stage-required-at t) stage-required.Post stage-required-Inv-loop stage-required-μ-loop
+stage-required-mul-less : (t : ℕ) → stage-required-lts.Need-mul-less (stage-required-claims t) (stage-required-at t) stage-required.Post Inv-loop μ-loop
 stage-required-mul-less t c =
     let s = c .before .before .before .before .before .before .before .before .before .before .before .before .before in
     let z = sizes (s .pre .1 .0 .1) in
     omega (arith, c .before .before .before .before .loop-test .taken)
 
-stage-required-shared-slice-read-less : (t : ℕ) → stage-required-lts.Need-shared-slice-read-less (
-  node-at-reads.Asked,
-  node-at-reads.Learnt,
-  is-terminal-reads.Asked,
-  is-terminal-reads.Learnt,
-  terminal-required-below t,
-  terminal-required.Post,
-  less-reads.Asked,
-  less-reads.Learnt,
-  lesser-reads.Asked,
-  lesser-reads.Learnt,
-) (stage-required-at t) stage-required.Post stage-required-Inv-loop stage-required-μ-loop
+stage-required-shared-slice-read-less :
+    (t : ℕ) → stage-required-lts.Need-shared-slice-read-less (stage-required-claims t) (stage-required-at t) stage-required.Post Inv-loop μ-loop
 stage-required-shared-slice-read-less t c =
     let s = c .before .before .before .before .before .before .before .before .before .before .before .before .before .before in
     let z = sizes (s .pre .1 .0 .1) in
     omega (arith, c .before .before .before .before .before .loop-test .taken)
 
-stage-required-less-requires : (t : ℕ) → stage-required-lts.Need-less-requires (
-  node-at-reads.Asked,
-  node-at-reads.Learnt,
-  is-terminal-reads.Asked,
-  is-terminal-reads.Learnt,
-  terminal-required-below t,
-  terminal-required.Post,
-  less-reads.Asked,
-  less-reads.Learnt,
-  lesser-reads.Asked,
-  lesser-reads.Learnt,
-) (stage-required-at t) stage-required.Post stage-required-Inv-loop stage-required-μ-loop
+stage-required-less-requires :
+    (t : ℕ) → stage-required-lts.Need-less-requires (stage-required-claims t) (stage-required-at t) stage-required.Post Inv-loop μ-loop
 stage-required-less-requires t c κs =
     let s = c .before .before .before .before .before .before .before .before .before .before .before .before .before .before in
     let (plan, T) = s .pre .1 .0 in
@@ -272,66 +175,24 @@ stage-required-less-requires t c κs =
     let k = c .before .before .before .is-terminal .ensures ∙ ap (λ (r : Node). isTerminal (r .kind)) (c .before .before .before .before .node-at .ensures) in
     rw eb (asked-fine T (s .pre .1 .1) (s .pre .1 .2) (l .inv plan T) v (sym k ∙ c .before .before .if1 .taken) (b .ensures plan T))
 
-stage-required-lesser-requires : (t : ℕ) → stage-required-lts.Need-lesser-requires (
-  node-at-reads.Asked,
-  node-at-reads.Learnt,
-  is-terminal-reads.Asked,
-  is-terminal-reads.Learnt,
-  terminal-required-below t,
-  terminal-required.Post,
-  less-reads.Asked,
-  less-reads.Learnt,
-  lesser-reads.Asked,
-  lesser-reads.Learnt,
-) (stage-required-at t) stage-required.Post stage-required-Inv-loop stage-required-μ-loop
-stage-required-lesser-requires t c κs = search needs
+stage-required-earlier-requires :
+    (t : ℕ) → stage-required-lts.Need-earlier-requires (stage-required-claims t) (stage-required-at t) stage-required.Post Inv-loop μ-loop
+stage-required-earlier-requires t c κs = search needs
 
-stage-required-mul-j-3 : (t : ℕ) → stage-required-lts.Need-mul-j-3 (
-  node-at-reads.Asked,
-  node-at-reads.Learnt,
-  is-terminal-reads.Asked,
-  is-terminal-reads.Learnt,
-  terminal-required-below t,
-  terminal-required.Post,
-  less-reads.Asked,
-  less-reads.Learnt,
-  lesser-reads.Asked,
-  lesser-reads.Learnt,
-) (stage-required-at t) stage-required.Post stage-required-Inv-loop stage-required-μ-loop
+stage-required-mul-j-3 : (t : ℕ) → stage-required-lts.Need-mul-j-3 (stage-required-claims t) (stage-required-at t) stage-required.Post Inv-loop μ-loop
 stage-required-mul-j-3 t c =
     let s = c .before .before .before .before .before .before .before .before .before .before .before .before in
     let z = sizes (s .pre .1 .0 .1) in
     omega (arith, c .before .before .before .loop-test .taken)
 
-stage-required-shared-slice-read-j-3 : (t : ℕ) → stage-required-lts.Need-shared-slice-read-j-3 (
-  node-at-reads.Asked,
-  node-at-reads.Learnt,
-  is-terminal-reads.Asked,
-  is-terminal-reads.Learnt,
-  terminal-required-below t,
-  terminal-required.Post,
-  less-reads.Asked,
-  less-reads.Learnt,
-  lesser-reads.Asked,
-  lesser-reads.Learnt,
-) (stage-required-at t) stage-required.Post stage-required-Inv-loop stage-required-μ-loop
+stage-required-shared-slice-read-j-3 :
+    (t : ℕ) → stage-required-lts.Need-shared-slice-read-j-3 (stage-required-claims t) (stage-required-at t) stage-required.Post Inv-loop μ-loop
 stage-required-shared-slice-read-j-3 t c =
     let s = c .before .before .before .before .before .before .before .before .before .before .before .before .before in
     let z = sizes (s .pre .1 .0 .1) in
     omega (arith, c .before .before .before .before .loop-test .taken)
 
-stage-required-loop-less : (t : ℕ) → stage-required-lts.Need-loop-less (
-  node-at-reads.Asked,
-  node-at-reads.Learnt,
-  is-terminal-reads.Asked,
-  is-terminal-reads.Learnt,
-  terminal-required-below t,
-  terminal-required.Post,
-  less-reads.Asked,
-  less-reads.Learnt,
-  lesser-reads.Asked,
-  lesser-reads.Learnt,
-) (stage-required-at t) stage-required.Post stage-required-Inv-loop stage-required-μ-loop
+stage-required-loop-less : (t : ℕ) → stage-required-lts.Need-loop-less (stage-required-claims t) (stage-required-at t) stage-required.Post Inv-loop μ-loop
 stage-required-loop-less t c =
     let s = c .before .before .before .before .before .before .before .before .before .before .before .before .before in
     let (plan, T) = s .pre .1 .0 in
@@ -339,18 +200,7 @@ stage-required-loop-less t c =
     let l = onward T (s .pre .1 .1) (s .pre .1 .2) (c .before .before .before .before .before .loop .inv plan T) b in
     omega arith
 
-stage-required-loop-again : (t : ℕ) → stage-required-lts.Need-loop-again (
-  node-at-reads.Asked,
-  node-at-reads.Learnt,
-  is-terminal-reads.Asked,
-  is-terminal-reads.Learnt,
-  terminal-required-below t,
-  terminal-required.Post,
-  less-reads.Asked,
-  less-reads.Learnt,
-  lesser-reads.Asked,
-  lesser-reads.Learnt,
-) (stage-required-at t) stage-required.Post stage-required-Inv-loop stage-required-μ-loop
+stage-required-loop-again : (t : ℕ) → stage-required-lts.Need-loop-again (stage-required-claims t) (stage-required-at t) stage-required.Post Inv-loop μ-loop
 stage-required-loop-again t c =
     let s = c .before .before .before .before .before .before .before .before .before .before .before .before .before in
     let l = c .before .before .before .before .before .loop in
@@ -362,74 +212,43 @@ stage-required-loop-again t c =
     (λ w. rw (w .5) (rw (toZ-ofZ (sfits-of (w .4 .ok))) (rw (w .4 .ensures)
     (rw (toZ-ofZ {w = w64} {z = w .3 .result} (sfits-of (w .3 .ok)) ∙ w .3 .ensures ∙
     ap (λ (z : ℤ). z -ℤ pos (getD (s .args .delay .now) (l .j) 0)) (toZ-ofZ {w = w64} {z = w .1 .result} (sfits-of (w .1 .ok))))
-    (going-take T h e (l .inv plan T) b (sym k ∙ w .0 .taken) (w .1 .ensures plan T))))))
-    (λ w. rw (w .1) (going-skip T h e (l .inv plan T) b (sym k ∙ w .0 .left)))
+    (required-take T h e (l .inv plan T) b (sym k ∙ w .0 .taken) (w .1 .ensures plan T))))))
+    (λ w. rw (w .1) (required-skip T h e (l .inv plan T) b (sym k ∙ w .0 .left)))
     (c .before .if1 .came)
 
-stage-required-returns : (t : ℕ) → stage-required-lts.Need-returns (
-  node-at-reads.Asked,
-  node-at-reads.Learnt,
-  is-terminal-reads.Asked,
-  is-terminal-reads.Learnt,
-  terminal-required-below t,
-  terminal-required.Post,
-  less-reads.Asked,
-  less-reads.Learnt,
-  lesser-reads.Asked,
-  lesser-reads.Learnt,
-) (stage-required-at t) stage-required.Post stage-required-Inv-loop stage-required-μ-loop
+stage-required-returns : (t : ℕ) → stage-required-lts.Need-returns (stage-required-claims t) (stage-required-at t) stage-required.Post Inv-loop μ-loop
 stage-required-returns t c =
     let s = c .before .before .before .before .before .before .before .before .before in
-    λ plan T. going-end T (s .pre .1 .1) (s .pre .1 .2) (c .before .loop .inv plan T) (c .loop-test .left)
+    λ plan T. required-end T (s .pre .1 .1) (s .pre .1 .2) (c .before .loop .inv plan T) (c .loop-test .left)
 
-terminal-required-enum-told : (t : ℕ) → terminal-required-lts.Need-enum-told (
-  stage-required-below t,
-  stage-required.Post,
-) (terminal-required-at t) terminal-required.Post
+terminal-required-enum-told : (t : ℕ) → terminal-required-lts.Need-enum-told (terminal-required-claims t) (terminal-required-at t) terminal-required.Post
 terminal-required-enum-told t c = search needs
 
-terminal-required-enum-told-2 : (t : ℕ) → terminal-required-lts.Need-enum-told-2 (
-  stage-required-below t,
-  stage-required.Post,
-) (terminal-required-at t) terminal-required.Post
+terminal-required-enum-told-2 : (t : ℕ) → terminal-required-lts.Need-enum-told-2 (terminal-required-claims t) (terminal-required-at t) terminal-required.Post
 terminal-required-enum-told-2 t c = search needs
 
 terminal-required-stage-required-requires :
-    (t : ℕ) → terminal-required-lts.Need-stage-required-requires (
-      stage-required-below t,
-      stage-required.Post,
-    ) (terminal-required-at t) terminal-required.Post
+    (t : ℕ) → terminal-required-lts.Need-stage-required-requires (terminal-required-claims t) (terminal-required-at t) terminal-required.Post
 terminal-required-stage-required-requires t c κs =
     let s = c .before .before .before .before .before .before .before in
     (omega (arith, s .pre .0), (s .pre .1 .0, s .pre .1 .2, buffer-root _ (s .args .j) (sym (s .pre .1 .3) ∙ c .enum-told2 .given .1) (s .pre .1 .1)))
 
-terminal-required-enum-known-kind : (t : ℕ) → terminal-required-lts.Need-enum-known-kind (
-  stage-required-below t,
-  stage-required.Post,
-) (terminal-required-at t) terminal-required.Post
+terminal-required-enum-known-kind :
+    (t : ℕ) → terminal-required-lts.Need-enum-known-kind (terminal-required-claims t) (terminal-required-at t) terminal-required.Post
 terminal-required-enum-known-kind t c = search needs
 
-terminal-required-returns : (t : ℕ) → terminal-required-lts.Need-returns (
-  stage-required-below t,
-  stage-required.Post,
-) (terminal-required-at t) terminal-required.Post
+terminal-required-returns : (t : ℕ) → terminal-required-lts.Need-returns (terminal-required-claims t) (terminal-required-at t) terminal-required.Post
 terminal-required-returns t c =
     let s = c .before .before .before .before .before .before .before in
     λ plan T. at-steiner _ plan (s .args .j) (sym (s .pre .1 .3) ∙ c .enum-told .given .1)
 
-terminal-required-returns-2 : (t : ℕ) → terminal-required-lts.Need-returns-2 (
-  stage-required-below t,
-  stage-required.Post,
-) (terminal-required-at t) terminal-required.Post
+terminal-required-returns-2 : (t : ℕ) → terminal-required-lts.Need-returns-2 (terminal-required-claims t) (terminal-required-at t) terminal-required.Post
 terminal-required-returns-2 t c =
     let s = c .before .before .before .before .before .before .before .before in
     λ plan T. rw (toZ-ofZ (sfits-of (c .stage-required .ok)))
     (at-buffer _ plan (s .args .j) (sym (s .pre .1 .3) ∙ c .before .enum-told2 .given .1) (c .stage-required .ensures plan T))
 
-terminal-required-returns-3 : (t : ℕ) → terminal-required-lts.Need-returns-3 (
-  stage-required-below t,
-  stage-required.Post,
-) (terminal-required-at t) terminal-required.Post
+terminal-required-returns-3 : (t : ℕ) → terminal-required-lts.Need-returns-3 (terminal-required-claims t) (terminal-required-at t) terminal-required.Post
 terminal-required-returns-3 t c =
     let s = c .before .before .before .before .before .before .before .before in
     let h : SFits w64 (c .before .kind .given .0 .1 .0) = search needs in
@@ -437,22 +256,11 @@ terminal-required-returns-3 t c =
 
 pub +stage-required+terminal-required-spec : {M : Type 1} → statement M
 +stage-required+terminal-required-spec =
-    close μ-stage-required μ-terminal-required (λ t. stage-required-lts.spec (
-      node-at-reads.Asked,
-      node-at-reads.Learnt,
-      is-terminal-reads.Asked,
-      is-terminal-reads.Learnt,
-      terminal-required-below t,
-      terminal-required.Post,
-      less-reads.Asked,
-      less-reads.Learnt,
-      lesser-reads.Asked,
-      lesser-reads.Learnt,
-    )
+    close μ-stage-required μ-terminal-required (λ t. stage-required-lts.spec (stage-required-claims t)
     (stage-required-at t)
     stage-required.Post
-    stage-required-Inv-loop
-    stage-required-μ-loop
+    Inv-loop
+    μ-loop
     (stage-required-mul-j t)
     (stage-required-shared-slice-read-j t)
     (stage-required-mul-j-2 t)
@@ -464,14 +272,14 @@ pub +stage-required+terminal-required-spec : {M : Type 1} → statement M
     (stage-required-mul-less t)
     (stage-required-shared-slice-read-less t)
     (stage-required-less-requires t)
-    (stage-required-lesser-requires t)
+    (stage-required-earlier-requires t)
     (stage-required-mul-j-3 t)
     (stage-required-shared-slice-read-j-3 t)
     (stage-required-loop-less t)
     (stage-required-loop-again t)
     (stage-required-returns t))
     λ t. terminal-required-lts.spec
-    (stage-required-below t, stage-required.Post)
+    (terminal-required-claims t)
     (terminal-required-at t)
     terminal-required.Post
     (terminal-required-enum-told t)

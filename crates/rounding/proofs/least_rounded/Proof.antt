@@ -1,8 +1,7 @@
 -- `least_rounded` is right: before layer l it has the least of the layers before l.
 use borrow.Author.Needs.{needs}
 use Prim.Native.Nat.{_-_, _/_}
-use native.Mathlib.Omega.{arith}
-use Rattle.readoff.specs.Laid.{onLayer}
+use Rattle.slices.specs.Laid.{onLayer}
 use Rattle.rounding.proofs.Totals.{Least, least-start, least-more, least-end}
 use Rattle.rounding.proofs.least_rounded.Statement.{statement}
 use Rattle.rounding.proofs.least_rounded.Tie as tie
@@ -16,63 +15,48 @@ Inv-loop cost layers g i least₀ l₀ least l = Least (λ l. onLayer cost i l /
 abbrev μ-loop : tie.MeasureT-loop
 μ-loop cost layers g i least₀ l₀ least l = layers - l
 
--- src/lib.rt:52:26
 mul-least : tie.Need-mul-least Inv-loop μ-loop
 mul-least c = search needs
 
--- src/lib.rt:52:21
 mul-least-2 : tie.Need-mul-least-2 Inv-loop μ-loop
 mul-least-2 c = search needs
 
--- src/lib.rt:52:21
 shared-slice-read-least : tie.Need-shared-slice-read-least Inv-loop μ-loop
 shared-slice-read-least c = search needs
 
--- src/lib.rt:52:21
 div-least : tie.Need-div-least Inv-loop μ-loop
 div-least c = search needs
 
--- src/lib.rt:54:5
 loop-holds : tie.Need-loop-holds Inv-loop μ-loop
 loop-holds c = let s = c .before .before in least-start (s .args .cost .now) (s .args .layers) (s .args .g) (s .args .i) (s .pre .some-layer)
 
--- src/lib.rt:55:36
 mul-lesser : tie.Need-mul-lesser Inv-loop μ-loop
 mul-lesser c = search needs
 
--- src/lib.rt:55:36
 add-lesser : tie.Need-add-lesser Inv-loop μ-loop
 add-lesser c = search needs
 
--- src/lib.rt:55:31
 mul-lesser-2 : tie.Need-mul-lesser-2 Inv-loop μ-loop
 mul-lesser-2 c = search needs
 
--- src/lib.rt:55:31
 shared-slice-read-lesser : tie.Need-shared-slice-read-lesser Inv-loop μ-loop
 shared-slice-read-lesser c = search needs
 
--- src/lib.rt:55:31
 div-lesser : tie.Need-div-lesser Inv-loop μ-loop
 div-lesser c = search needs
 
--- src/lib.rt:55:9
 lesser-requires : tie.Need-lesser-requires Inv-loop μ-loop
 lesser-requires c κs = search needs
 
--- src/lib.rt:56:9
 add-l : tie.Need-add-l Inv-loop μ-loop
 add-l c = search needs
 
--- src/lib.rt:54:5
 loop-less : tie.Need-loop-less Inv-loop μ-loop
 loop-less c = search needs
 
--- src/lib.rt:54:5
 loop-again : tie.Need-loop-again Inv-loop μ-loop
 loop-again c = least-more (c .before .before .before .loop .inv) (c .before .before .loop-test .taken) (c .lesser .ensures)
 
--- src/lib.rt:48:1
 returns : tie.Need-returns Inv-loop μ-loop
 returns c = least-end (c .before .before .before .before .pre .some-layer) (c .before .loop .inv) (c .loop-test .left)
 

@@ -5,6 +5,7 @@ use native.Mathlib.Omega.{arith}
 use mir.Facts.{toZ-ofZ}
 use mir.Syntax.{w64}
 use mir.Val.{toZ, ofZ}
+use Rattle.rules.specs.Grain.{maxExponent}
 use Rattle.rounds.specs.Problem.{numbers-same}
 use Rattle.rounds.specs.Contracts.{prepared-same}
 use Rattle.rounds.proofs.Rounds.{feasible-in, feasible-none, feasible-some, read-in}
@@ -33,7 +34,7 @@ value-at-requires : tie.Need-value-at-requires
 value-at-requires c κs = let s = c .before .before .before .before .before .before .before .before .before in (feasible-in (numbers-same (time-is s) (s .pre .0 .0 .1)) refl refl refl, prepared-same (time-is s) (s .pre .1))
 
 returns : tie.Need-returns
-returns c = λ T N. let M = numbers-same (time-is (c .before .before .before .before .before .before .before .before .before .before .before .before .before .before)) N in feasible-none M (c .before .before .before .before .value-at .ensures T 28 M refl) (λ z. omega arith)
+returns c = λ T N. let M = numbers-same (time-is (c .before .before .before .before .before .before .before .before .before .before .before .before .before .before)) N in feasible-none M (c .before .before .before .before .value-at .ensures T maxExponent M refl) (λ z. omega arith)
 
 slice-aggregate-read-plan : tie.Need-slice-aggregate-read-plan
 slice-aggregate-read-plan c = search needs
@@ -51,7 +52,7 @@ read-plan-requires : tie.Need-read-plan-requires
 read-plan-requires c κs =
     let s = c .before .before .before .before .before .before .before .before .before .before .before .before .before .before .before .before .before .before .before in
     let N = numbers-same (time-is s) (s .pre .0 .0 .1) in
-    read-in N (c .before .before .before .before .before .before .before .before .before .value-at .ensures (s .pre .0 .0 .0) 28 N refl) (s .pre .1 .linked) refl (omega arith) (omega (arith, N .stages-are, N .laid .few-stages)) refl (s .pre .0 .1)
+    read-in N (c .before .before .before .before .before .before .before .before .before .value-at .ensures (s .pre .0 .0 .0) maxExponent N refl) (s .pre .1 .linked) refl (omega arith) (omega (arith, N .stages-are, N .laid .delays .few-stages)) refl (s .pre .0 .1)
 
 same-length : tie.Need-same-length
 same-length c = search needs
@@ -60,7 +61,7 @@ returns-2 : tie.Need-returns-2
 returns-2 c = λ T N.
     let s = c .before .before .before .before .before .before .before .before .before .before .before .before .before .before .before .before .before .before .before .before .before .before .before in
     let M = numbers-same (time-is s) N in
-    feasible-some M (c .before .before .before .before .before .before .before .before .before .before .before .before .before .value-at .ensures T 28 M refl) (omega arith) (c .before .before .before .before .before .before .before .before .before .before .before .before .before .value-at .kept .0) (c .before .before .before .read-plan .ensures) (s .pre .1 .linked)
+    feasible-some M (c .before .before .before .before .before .before .before .before .before .before .before .before .before .value-at .ensures T maxExponent M refl) (omega arith) (c .before .before .before .before .before .before .before .before .before .before .before .before .before .value-at .kept .0) (c .before .before .before .read-plan .ensures) (s .pre .1 .linked)
 
 pub feasible-spec : {M : Type 1} → statement M
 feasible-spec =

@@ -29,10 +29,16 @@ slice-aggregate-excess-costs c = search needs
 excess-costs-requires : tie.Need-excess-costs-requires
 excess-costs-requires c κs =
     let P = c .before .before .before .before .before .before .before .pre .0 in
-    record { tree = P .tree; costs = costs-of (P .numbers); excess-long = refl; some-grain = rw (P .grain-is) (pow-pos (P .k)) }
+    record {
+      tree = P .tree;
+      costs = costs-of (P .numbers);
+      layers-are = P .numbers .layers-are;
+      excess-long = search needs;
+      some-grain = rw (P .grain-is) (pow-pos (P .k));
+    }
 
 returns : tie.Need-returns
-returns c = λ T k N e K. none-left N K (c .before .before .excess-costs .ensures T k (costs-of N) e) (omega arith)
+returns c = λ T k N e K. none-left N K (c .before .before .excess-costs .ensures T k (costs-of N) (N .layers-are) e) (omega arith)
 
 add-lesser : tie.Need-add-lesser
 add-lesser c = let P = c .before .before .before .before .before .before .before .before .before .before .pre .0 in omega (arith, bound-small (P .numbers) (P .plan))
@@ -43,7 +49,7 @@ lesser-requires c κs = search needs
 sub-width : tie.Need-sub-width
 sub-width c =
     let P = c .before .before .before .before .before .before .before .before .before .before .before .pre .0 in
-    let X = c .before .before .before .excess-costs .ensures (P .tree) (P .k) (costs-of (P .numbers)) (P .grain-is) in
+    let X = c .before .before .before .excess-costs .ensures (P .tree) (P .k) (costs-of (P .numbers)) (P .numbers .layers-are) (P .grain-is) in
     omega (arith, c .lesser .ensures, base-within (P .numbers) (P .plan) X)
 
 slice-aggregate-value-at : tie.Need-slice-aggregate-value-at
@@ -59,7 +65,7 @@ value-at-requires : tie.Need-value-at-requires
 value-at-requires c κs =
     let s = c .before .before .before .before .before .before .before .before .before .before .before .before .before .before .before in
     let P = s .pre .0 in
-    let X = c .before .before .before .before .before .before .before .excess-costs .ensures (P .tree) (P .k) (costs-of (P .numbers)) (P .grain-is) in
+    let X = c .before .before .before .before .before .before .before .excess-costs .ensures (P .tree) (P .k) (costs-of (P .numbers)) (P .numbers .layers-are) (P .grain-is) in
     (round-in (numbers-same (time-is s) (P .numbers)) (P .plan) X (omega arith) (c .before .before .before .before .lesser .ensures) _ (P .sized) refl refl, prepared-same (time-is s) (s .pre .1))
 
 same-length : tie.Need-same-length
@@ -69,8 +75,8 @@ returns-2 : tie.Need-returns-2
 returns-2 c = λ T k N e K.
     let s = c .before .before .before .before .before .before .before .before .before .before .before .before .before .before .before .before .before .before .before .before in
     let M = numbers-same (time-is s) N in
-    let X = c .before .before .before .before .before .before .before .before .before .before .before .before .excess-costs .ensures T k (costs-of N) e in
-    all-spent M K X (omega arith) (c .before .before .before .before .before .before .before .before .before .lesser .ensures) _ (search needs) (c .before .before .before .before .value-at .ensures _ 0 (left M K X) refl) (omega arith)
+    let X = c .before .before .before .before .before .before .before .before .before .before .before .before .excess-costs .ensures T k (costs-of N) (N .layers-are) e in
+    all-spent M K X (omega (arith, c .before .before .before .before .before .before .before .before .before .before .if1 .left)) (c .before .before .before .before .before .before .before .before .before .lesser .ensures) _ (search needs) (c .before .before .before .before .value-at .ensures _ 0 (left M K X) refl) (omega arith)
 
 slice-aggregate-read-plan : tie.Need-slice-aggregate-read-plan
 slice-aggregate-read-plan c = search needs
@@ -89,7 +95,7 @@ read-plan-requires c κs =
     let s = c .before .before .before .before .before .before .before .before .before .before .before .before .before .before .before .before .before .before .before .before .before .before .before .before .before .before in
     let P = s .pre .0 in
     let M = numbers-same (time-is s) (P .numbers) in
-    let X = c .before .before .before .before .before .before .before .before .before .before .before .before .before .before .before .before .before .before .excess-costs .ensures (P .tree) (P .k) (costs-of (P .numbers)) (P .grain-is) in
+    let X = c .before .before .before .before .before .before .before .before .before .before .before .before .before .before .before .before .before .before .excess-costs .ensures (P .tree) (P .k) (costs-of (P .numbers)) (P .numbers .layers-are) (P .grain-is) in
     reading M (P .plan) X (omega (arith, c .before .before .before .before .before .before .before .before .before .before .before .before .before .before .before .before .if1 .left)) (c .before .before .before .before .before .before .before .before .before .before .before .before .before .before .before .lesser .ensures) _ (search needs) (c .before .before .before .before .before .before .before .before .before .before .value-at .ensures _ 0 (left M (P .plan) X) refl)
     (c .before .before .before .before .before .before .if2 .left) (s .pre .1 .linked) refl (P .long)
 
@@ -98,7 +104,7 @@ add-result c =
     let s = c .before .before .before .before .before .before .before .before .before .before .before .before .before .before .before .before .before .before .before .before .before .before .before .before .before .before .before .before .before .before in
     let P = s .pre .0 in
     let M = numbers-same (time-is s) (P .numbers) in
-    let X = c .before .before .before .before .before .before .before .before .before .before .before .before .before .before .before .before .before .before .before .before .before .before .excess-costs .ensures (P .tree) (P .k) (costs-of (P .numbers)) (P .grain-is) in
+    let X = c .before .before .before .before .before .before .before .before .before .before .before .before .before .before .before .before .before .before .before .before .before .before .excess-costs .ensures (P .tree) (P .k) (costs-of (P .numbers)) (P .numbers .layers-are) (P .grain-is) in
     omega (
       arith,
       bound-small (P .numbers) (P .plan),
@@ -116,7 +122,7 @@ returns-3 : tie.Need-returns-3
 returns-3 c = λ T k N e K.
     let s = c .before .before .before .before .before .before .before .before .before .before .before .before .before .before .before .before .before .before .before .before .before .before .before .before .before .before .before .before .before .before in
     let M = numbers-same (time-is s) N in
-    let X = c .before .before .before .before .before .before .before .before .before .before .before .before .before .before .before .before .before .before .before .before .before .before .excess-costs .ensures T k (costs-of N) e in
+    let X = c .before .before .before .before .before .before .before .before .before .before .before .before .before .before .before .before .before .before .before .before .before .before .excess-costs .ensures T k (costs-of N) (N .layers-are) e in
     plan-at M K X (omega (arith, c .before .before .before .before .before .before .before .before .before .before .before .before .before .before .before .before .before .before .before .before .if1 .left)) (c .before .before .before .before .before .before .before .before .before .before .before .before .before .before .before .before .before .before .before .lesser .ensures) _ (omega (arith, c .before .before .before .before .before .before .before .before .before .before .before .before .before .before .before .before .before .before .before .before .before .before .before .before .before .before .before .before .before .before .pre .0 .sized, c .before .before .before .before .before .before .before .before .before .before .before .before .before .before .value-at .kept .0)) (c .before .before .before .before .before .before .before .before .before .before .before .before .before .before .value-at .ensures _ 0 (left M K X) refl)
     (c .before .before .before .before .before .before .before .before .before .before .if2 .left) (s .pre .1 .linked) (c .before .before .before .read-plan .ensures)
 

@@ -1,5 +1,4 @@
 -- `prepare` is right: links and windows are found from the same drivers and delays.
-use mir.Facts.{toZ-ofZ}
 use Rattle.rounds.proofs.Preparing.{link-in, windows-in, prepared}
 use borrow.Author.Needs.{needs}
 use Rattle.rounds.proofs.prepare.Statement.{statement}
@@ -9,11 +8,15 @@ use Rattle.rounds.proofs.prepare.Lts as lts
 use Rattle.fanout.proofs.link.Reads as link-reads
 use Rattle.windows.proofs.windows.Reads as windows-reads
 
+-- The start of the call, from after the links.
+abbrev start : tie.After-link → tie.Start
+start l = l .before .before .before .before .before .before .before
+
 link-requires : tie.Need-link-requires
 link-requires c κs = link-in (c .before .before .before .before .before .before .pre)
 
 windows-requires : tie.Need-windows-requires
-windows-requires c κs = windows-in (c .before .before .before .before .before .before .before .before .before .before .before .before .before .pre) (toZ-ofZ (c .before .before .before .before .before .before .before .before .before .before .before .before .before .fits .arrival))
+windows-requires c κs = windows-in (start (c .before .before .before .before .before .before) .pre)
 
 same-length : tie.Need-same-length
 same-length c = search needs
@@ -28,7 +31,9 @@ same-length-4 : tie.Need-same-length-4
 same-length-4 c = search needs
 
 returns : tie.Need-returns
-returns c = prepared (c .before .before .before .before .before .before .before .before .before .before .before .before .before .before .before .before .pre) (c .before .before .before .before .before .before .before .before .before .link .ensures) (toZ-ofZ (c .before .before .before .before .before .before .before .before .before .before .before .before .before .before .before .before .fits .arrival)) (search needs) (search needs) (c .before .before .windows .ensures)
+returns c =
+    let l = c .before .before .before .before .before .before .before .before .before in
+    prepared (start l .pre) (l .link .ensures) (search needs) (search needs) (c .before .before .windows .ensures)
 
 pub prepare-spec : {M : Type 1} → statement M
 prepare-spec =

@@ -2,7 +2,7 @@
 use native.Mathlib.Omega.{arith}
 use mir.Facts.{toZ-ofZ}
 use borrow.Author.Needs.{sfits-of}
-use Rattle.rows.proofs.Tables.{RowsFrom, rows-start, stage-in, rows-more, rows-end}
+use Rattle.rows.proofs.Tables.{RowsFrom, rows-start, stage-asks, rows-more, rows-end}
 use borrow.Author.Needs.{needs}
 use Rattle.rows.proofs.fill_rows.Statement.{statement}
 use Rattle.rows.proofs.fill_rows.Tie as tie
@@ -11,10 +11,15 @@ use Rattle.rows.proofs.fill_rows.Lts as lts
 use Rattle.rows.proofs.stage_row.Reads as stage-row-reads
 
 abbrev Inv-loop : tie.InvT-loop
-Inv-loop table₀ driver first next delay limit cost early late starts₀ ends₀ stages layers g width i₀ table starts ends i = RowsFrom table₀ driver delay limit cost early late starts₀ ends₀ stages layers g width table starts ends i
+Inv-loop table₀ driver first next delay limit cost early late starts₀ ends₀ n i₀ table starts ends i =
+    RowsFrom table₀ driver delay limit cost early late starts₀ ends₀ (n .stages) (n .layers) (n .grain) (n .width) table starts ends i
 
 abbrev μ-loop : tie.MeasureT-loop
-μ-loop table₀ driver first next delay limit cost early late starts₀ ends₀ stages layers g width i₀ table starts ends i = i
+μ-loop table₀ driver first next delay limit cost early late starts₀ ends₀ n i₀ table starts ends i = i
+
+-- The start of the call, from the loop.
+abbrev start : tie.At-loop Inv-loop μ-loop → tie.Start Inv-loop μ-loop
+start a = a .before .before .before .before .before .before .before .before
 
 loop-holds : tie.Need-loop-holds Inv-loop μ-loop
 loop-holds c = rows-start
@@ -35,16 +40,16 @@ shared-slice-copy-out-to : tie.Need-shared-slice-copy-out-to Inv-loop μ-loop
 shared-slice-copy-out-to c = search needs
 
 stage-row-requires : tie.Need-stage-row-requires Inv-loop μ-loop
-stage-row-requires c κs = stage-in (c .before .before .before .before .before .before .before .before .before .before .before .before .before .before .pre .0) (c .before .before .before .before .before .before .loop .inv) (c .before .before .before .before .before .loop-test .taken)
+stage-row-requires c κs = let n = c .before .before .before .before .before in stage-asks (start (n .before) .pre .0) (n .before .loop .inv) (n .loop-test .taken)
 
 mul-starts : tie.Need-mul-starts Inv-loop μ-loop
-mul-starts c = search needs
+mul-starts c = omega (arith, start (c .before .before .before .before .before .before .before .before) .good .1 .1 .1 .1 .1 .1 .1 .1 .1 .0 .1)
 
 slice-write-starts : tie.Need-slice-write-starts Inv-loop μ-loop
 slice-write-starts c = search needs
 
 mul-ends : tie.Need-mul-ends Inv-loop μ-loop
-mul-ends c = search needs
+mul-ends c = omega (arith, start (c .before .before .before .before .before .before .before .before) .good .1 .1 .1 .1 .1 .1 .1 .1 .1 .1 .0 .1)
 
 slice-write-ends : tie.Need-slice-write-ends Inv-loop μ-loop
 slice-write-ends c = search needs
@@ -53,7 +58,10 @@ loop-less : tie.Need-loop-less Inv-loop μ-loop
 loop-less c = search needs
 
 loop-again : tie.Need-loop-again Inv-loop μ-loop
-loop-again c = rows-more (c .before .before .before .before .before .before .before .before .before .before .before .before .before .before .before .before .pre .0) (c .before .before .before .before .before .before .before .before .loop .inv) (c .before .before .before .before .before .before .before .loop-test .taken) (toZ-ofZ (sfits-of (c .before .before .before .before .before .before .from .given))) (toZ-ofZ (sfits-of (c .before .before .before .before .before .to .given))) (c .before .stage-row .ensures)
+loop-again c =
+    rows-more (start (c .before .before .before .before .before .before .before .before) .pre .0) (c .before .before .before .before .before .before .before .before .loop .inv)
+    (c .before .before .before .before .before .before .before .loop-test .taken) (toZ-ofZ (sfits-of (c .before .before .before .before .before .before .from .given)))
+    (toZ-ofZ (sfits-of (c .before .before .before .before .before .to .given))) (c .before .stage-row .ensures)
 
 same-length : tie.Need-same-length Inv-loop μ-loop
 same-length c = search needs
@@ -65,7 +73,7 @@ same-length-3 : tie.Need-same-length-3 Inv-loop μ-loop
 same-length-3 c = search needs
 
 returns : tie.Need-returns Inv-loop μ-loop
-returns c = rows-end (c .before .before .before .before .before .before .before .before .before .pre .0) (c .before .loop .inv) (omega arith)
+returns c = let a = c .before in rows-end (start a .pre .0) (a .loop .inv) (omega arith)
 
 pub fill-rows-spec : {M : Type 1} → statement M
 fill-rows-spec =

@@ -12,6 +12,10 @@ use Rattle.bands.proofs.spend.Reads as spend-reads
 use Rattle.bands.proofs.widen.Reads as widen-reads
 use Rattle.branches.proofs.branches.Reads as branches-reads
 
+-- The start of the call, from where the layer is known to be within the budgets.
+abbrev start : tie.Else1 → tie.Start
+start e = e .before .before .before .before .before .before .before .before .before .before
+
 mul-at : tie.Need-mul-at
 mul-at c = search needs
 
@@ -28,40 +32,52 @@ div-c : tie.Need-div-c
 div-c c = search needs
 
 returns : tie.Need-returns
-returns c = layer-dear (c .before .before .before .before .before .before .before .before .before .pre) (c .if1 .taken)
+returns c = layer-dear (c .before .before .before .before .before .before .before .before .before .before .pre) (c .if1 .taken)
 
 mul-own : tie.Need-mul-own
-mul-own c = omega (arith, layer-sizes (c .before .before .before .before .before .before .before .before .before .pre) .1)
+mul-own c = omega (arith, layer-sizes (start c .pre) .1)
 
 shared-slice-copy-out-own : tie.Need-shared-slice-copy-out-own
-shared-slice-copy-out-own c = layer-sizes (c .before .before .before .before .before .before .before .before .before .pre) .1
+shared-slice-copy-out-own c = layer-sizes (start c .pre) .1
 
 returns-2 : tie.Need-returns-2
-returns-2 c = layer-late (c .before .before .before .before .before .before .before .before .before .before .before .pre) (own-is (branches-in (c .before .before .before .before .before .before .before .before .before .before .before .pre) (c .before .before .if1 .left))) (toZ-ofZ (c .before .before .before .before .before .before .before .before .before .before .before .fits .early)) (c .if2 .taken)
+returns-2 c =
+    let e = c .before .before in
+    let I = start e .pre in
+    layer-late I (own-is (branches-in I (e .if1 .left))) (toZ-ofZ (start e .fits .early)) (c .if2 .taken)
 
 sub-branches : tie.Need-sub-branches
 sub-branches c = search needs
 
 branches-requires : tie.Need-branches-requires
-branches-requires c κs = branches-in (c .before .before .before .before .before .before .before .before .before .before .before .before .pre) (c .before .before .before .if1 .left)
+branches-requires c κs = let e = c .before .before .before in branches-in (start e .pre) (e .if1 .left)
 
 mul-row : tie.Need-mul-row
-mul-row c = omega (arith, layer-sizes (c .before .before .before .before .before .before .before .before .before .before .before .before .before .before .pre) .2, layer-sizes (c .before .before .before .before .before .before .before .before .before .before .before .before .before .before .pre) .3)
+mul-row c = let I = start (c .before .before .before .before .before) .pre in omega (arith, layer-sizes I .2, layer-sizes I .3)
 
 add-widen : tie.Need-add-widen
 add-widen c = search needs
 
 widen-requires : tie.Need-widen-requires
-widen-requires c κs = widen-in (c .before .before .before .before .before .before .before .before .before .before .before .before .before .before .before .before .pre) (c .before .before .before .before .before .before .before .if1 .left) (c .before .before .before .branches .ensures)
+widen-requires c κs =
+    widen-in (start (c .before .before .before .before .before .before .before) .pre) (c .before .before .before .before .before .before .before .if1 .left)
+    (c .before .before .before .branches .ensures)
 
 spend-requires : tie.Need-spend-requires
-spend-requires c κs = spend-in (c .before .before .before .before .before .before .before .before .before .before .before .before .before .before .before .before .before .before .before .pre) (c .before .before .before .before .before .before .before .before .before .before .if1 .left) (c .before .before .before .before .before .before .branches .ensures) (c .before .before .widen .ensures)
+spend-requires c κs =
+    spend-in (start (c .before .before .before .before .before .before .before .before .before .before) .pre)
+    (c .before .before .before .before .before .before .before .before .before .before .if1 .left) (c .before .before .before .before .before .before .branches .ensures)
+    (c .before .before .widen .ensures)
 
 same-length : tie.Need-same-length
 same-length c = search needs
 
 returns-3 : tie.Need-returns-3
-returns-3 c = layer-spent (c .before .before .before .before .before .before .before .before .before .before .before .before .before .before .before .before .before .before .before .before .before .pre) (c .before .before .before .before .before .before .before .before .before .before .before .before .if1 .left) (rw (toZ-ofZ (c .before .before .before .before .before .before .before .before .before .before .before .before .before .before .before .before .before .before .before .before .before .fits .late)) at (c .before .before .before .before .before .before .before .before .branches .ensures)) (c .before .before .before .before .widen .ensures) (c .before .spend .ensures)
+returns-3 c =
+    layer-spent (start (c .before .before .before .before .before .before .before .before .before .before .before .before) .pre)
+    (c .before .before .before .before .before .before .before .before .before .before .before .before .if1 .left)
+    (rw (toZ-ofZ (start (c .before .before .before .before .before .before .before .before .before .before .before .before) .fits .late)) at (c .before .before .before .before .before .before .before .before .branches .ensures))
+    (c .before .before .before .before .widen .ensures) (c .before .spend .ensures)
 
 pub layer-spec : {M : Type 1} → statement M
 layer-spec =

@@ -6,7 +6,7 @@ use mir.Facts.{toZ-ofZ}
 use mir.Syntax.{w64}
 use mir.Val.{toZ, ofZ}
 use Rattle.facts.specs.Ranges.{TimeInRange}
-use Rattle.stage_numbers.proofs.Times.{time-fits}
+use Rattle.stage_numbers.proofs.Times.{required-fits}
 use Rattle.stage_numbers.proofs.note_node.Statement.{statement}
 use Rattle.stage_numbers.proofs.note_node.Tie as tie
 use Rattle.stage_numbers.proofs.note_node.Reads as reads
@@ -14,12 +14,12 @@ use Rattle.stage_numbers.proofs.note_node.Lts as lts
 use Rattle.stage_numbers.proofs.copy_row.Reads as copy-row-reads
 use Rattle.stage_numbers.proofs.lower_limits.Reads as lower-limits-reads
 
--- the required time of a sink
+-- The required time of a sink.
 in-range : (c : tie.After-kind) → TimeInRange (c .kind .given .0 .1 .0)
 in-range c = (rw (c .kind .given .1) at (c .before .before .before .before .before .pre .kind-in)) .1
 
 required : (c : tie.After-kind) → toZ w64 (ofZ w64 (c .kind .given .0 .1 .0)) ≡ c .kind .given .0 .1 .0
-required c = toZ-ofZ (time-fits _ (in-range c))
+required c = toZ-ofZ (required-fits _ (in-range c))
 
 enum-told : tie.Need-enum-told
 enum-told c = search needs
@@ -31,10 +31,10 @@ mul-driver : tie.Need-mul-driver
 mul-driver c = search needs
 
 slice-write-driver : tie.Need-slice-write-driver
-slice-write-driver c = let p = c .before .before .before .before .before .pre in omega (arith, p .driver-long, p .wire-row .stage-in)
+slice-write-driver c = let p = c .before .before .before .before .before .pre in omega (arith, p .driver-long, p .wire-row .row-in)
 
 copy-row-requires : tie.Need-copy-row-requires
-copy-row-requires c κs = let p = c .before .before .before .before .before .before .pre in (p .delays .row, p .wire-row)
+copy-row-requires c κs = let p = c .before .before .before .before .before .before .pre in (p .few, p .delays .row, p .wire-row)
 
 enum-known-kind : tie.Need-enum-known-kind
 enum-known-kind c = search needs
@@ -42,7 +42,7 @@ enum-known-kind c = search needs
 lower-limits-requires : tie.Need-lower-limits-requires
 lower-limits-requires c κs =
     let p = c .before .before .before .before .before .before .before .pre in
-    (p .delays, p .limit-row, rw (required (c .before .before)) (in-range (c .before .before)))
+    (p .few, p .delays, p .limit-row, rw (required (c .before .before)) (in-range (c .before .before)))
 
 returns : tie.Need-returns
 returns c = rw (c .enum-told .given .1) (refl, refl, refl)

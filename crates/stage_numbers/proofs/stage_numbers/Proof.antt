@@ -1,15 +1,16 @@
 -- `stage_numbers` is right: before node j the tables hold what the nodes before it give, and at the end all have given theirs.
 use borrow.Author.Needs.{needs}
 use native.Mathlib.Omega.{arith}
-use Prim.Native.Nat.{_+_, _-_, _≤_}
+use Prim.Native.Nat.{_+_, _-_, _*_, _≤_}
 use mathlib.Core.Path.{_≡_, sym, _∙_, ap}
 use lib.ListN.{length, getD, length-replicate}
 use Rattle.rules.specs.Tree.{Net, at}
+use Rattle.rules.specs.Bytes.{maxLayers, maxStages}
 use Rattle.words.specs.declared.Node.{Node}
 use Rattle.words.specs.Words.{netIn}
 use Rattle.words.specs.Held.{held-accepted}
-use Rattle.readoff.specs.Laid.{noLimit}
-use Rattle.stage_numbers.specs.Numbered.{Numbering, Turn, numbering-start, turn}
+use Rattle.slices.specs.Laid.{noLimit}
+use Rattle.stage_numbers.specs.Numbered.{Numbering, NumberTurn, numbering-start, number-turn}
 use Rattle.stage_numbers.specs.Whole.{numbering-end}
 use Rattle.stage_numbers.proofs.stage_numbers.Statement.{statement}
 use Rattle.stage_numbers.proofs.stage_numbers.Tie as tie
@@ -24,25 +25,25 @@ Inv-loop words layers nodes stage below delay driver₀ wire₀ limit₀ j₀ dr
 abbrev μ-loop : tie.MeasureT-loop
 μ-loop words layers nodes stage below delay driver₀ wire₀ limit₀ j₀ driver wire limit j = nodes + 1 - j
 
--- where the function starts, and the net
+-- Where the function starts, and the net.
 abbrev start : tie.In-loop Inv-loop μ-loop → tie.Start Inv-loop μ-loop
 start c = c .before .before .before .before .before .before .before .before
 
 abbrev net : tie.In-loop Inv-loop μ-loop → Net
 net c = netIn (start c .args .words .now)
 
--- the turn at node j
+-- The turn at node j.
 here : (c : tie.In-loop Inv-loop μ-loop)
-    → Turn (net c) (start c .args .layers) (start c .args .delay .now) (c .before .loop .j)
+    → NumberTurn (net c) (start c .args .layers) (start c .args .delay .now) (c .before .loop .j)
     (getD (start c .args .stage .now) (c .before .loop .j) 0) (getD (start c .args .below .now) (c .before .loop .j) 0) (c .before .loop .driver)
     (c .before .loop .wire) (c .before .loop .limit)
 here c =
     let p = start c .pre in
     let N = c .before .loop .inv in
     let inside : c .before .loop .j ≤ length (net c .nodes) = omega (arith, p .0 .nodes-are, c .loop-test .taken) in
-    turn (held-accepted (p .0)) (p .2) (p .0 .layers-are) N inside (p .1 .stage-is _ (N .some) inside) (p .1 .below-is _ inside)
+    number-turn (held-accepted (p .0)) (p .2) (p .0 .layers-are) N inside (p .1 .stage-is _ (N .some) inside) (p .1 .below-is _ inside)
 
--- the kind that is read is that of node j
+-- The kind that is read is that of node j.
 kind : (c : tie.After-node-at Inv-loop μ-loop) → c .node-at .result .kind ≡ at (net (c .before)) (c .before .before .loop .j) .kind
 kind c = ap (λ (m : Node). m .kind) (c .node-at .ensures)
 
@@ -88,7 +89,7 @@ same-length-2 c = c .before .loop .inv .driven .wire-long ∙ sym (c .before .be
 same-length-3 : tie.Need-same-length-3 Inv-loop μ-loop
 same-length-3 c =
     c .before .loop .inv .limited .limit-long ∙
-    sym (ap length (c .before .before .before .before .before .before .before .before .pre .5) ∙ length-replicate 1024 noLimit)
+    sym (ap length (c .before .before .before .before .before .before .before .before .pre .5) ∙ length-replicate (maxStages * maxLayers) noLimit)
 
 returns : tie.Need-returns Inv-loop μ-loop
 returns c =

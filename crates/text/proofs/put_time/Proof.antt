@@ -6,7 +6,7 @@ use native.Mathlib.Omega.{arith}
 use lib.ListN.{length}
 use Rattle.rules.specs.Text.{minusSign, decimal, decimalZ}
 use Rattle.text.proofs.Joining.{joined}
-use Rattle.text.proofs.Times.{below, from}
+use Rattle.text.proofs.Times.{below-zero, from-zero}
 use Rattle.text.proofs.put_time.Statement.{statement}
 use Rattle.text.proofs.put_time.Tie as tie
 use Rattle.text.proofs.put_time.Reads as reads
@@ -16,10 +16,10 @@ use Rattle.text.proofs.put_number.Reads as put-number-reads
 use Rattle.text.proofs.size.Reads as size-reads
 
 minus : (c : tie.Then1) → decimalZ (c .before .before .before .args .t) ≡ minusSign ++ decimal (c .before .size .result)
-minus c = below _ (c .before .before .before .fits .t) (c .if1 .taken) .bytes ∙ ap (λ n. minusSign ++ decimal n) (sym (c .before .size .ensures))
+minus c = below-zero _ (c .before .before .before .fits .t) (c .if1 .taken) .bytes ∙ ap (λ n. minusSign ++ decimal n) (sym (c .before .size .ensures))
 
 plus : (c : tie.Else1) → decimalZ (c .before .before .before .args .t) ≡ decimal (c .before .size .result)
-plus c = from _ (c .before .before .before .fits .t) (c .if1 .left) .bytes ∙ ap decimal (sym (c .before .size .ensures))
+plus c = from-zero _ (c .before .before .before .fits .t) (c .if1 .left) .bytes ∙ ap decimal (sym (c .before .size .ensures))
 
 size-requires : tie.Need-size-requires
 size-requires c κs = search needs

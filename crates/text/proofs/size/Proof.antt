@@ -1,17 +1,17 @@
 -- `size` is right: the size of a time below 0 is one more than -1 - t, which is 0 or more.
 use borrow.Author.Needs.{needs}
 use native.Mathlib.Omega.{arith}
-use Rattle.text.proofs.Times.{Below, below, From, from}
+use Rattle.text.proofs.Times.{BelowZero, below-zero, FromZero, from-zero}
 use Rattle.text.proofs.size.Statement.{statement}
 use Rattle.text.proofs.size.Tie as tie
 use Rattle.text.proofs.size.Reads as reads
 use Rattle.text.proofs.size.Lts as lts
 
-minus : (c : tie.Then1) → Below (c .before .args .t)
-minus c = below _ (c .before .fits .t) (c .if1 .taken)
+minus : (c : tie.Then1) → BelowZero (c .before .args .t)
+minus c = below-zero _ (c .before .fits .t) (c .if1 .taken)
 
-plus : (c : tie.Else1) → From (c .before .args .t)
-plus c = from _ (c .before .fits .t) (c .if1 .left)
+plus : (c : tie.Else1) → FromZero (c .before .args .t)
+plus c = from-zero _ (c .before .fits .t) (c .if1 .left)
 
 sub-result : tie.Need-sub-result
 sub-result c = let k = minus c in rw (k .less) (record { sfits = omega arith })

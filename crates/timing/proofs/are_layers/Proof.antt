@@ -5,7 +5,7 @@ use mathlib.Core.Path.{_≡_, refl, sym, _∙_}
 use native.Mathlib.Omega.{arith}
 use lib.ListN.{length}
 use Rattle.laws.specs.Lists.{scan, scan-no, scan-more, scan-end}
-use Rattle.timing.specs.Slack.{layerTest, layers-scan, layer-in, layer-out}
+use Rattle.timing.specs.Slack.{planLayerTest, layers-scan, layer-passes, layer-fails}
 use Rattle.timing.proofs.are_layers.Statement.{statement}
 use Rattle.timing.proofs.are_layers.Tie as tie
 use Rattle.timing.proofs.are_layers.Reads as reads
@@ -13,7 +13,7 @@ use Rattle.timing.proofs.are_layers.Lts as lts
 use Rattle.tree.proofs.wide.Reads as wide-reads
 
 abbrev Inv-loop : tie.InvT-loop
-Inv-loop plan layers t₀ t = (t ≤ length plan) × (scan (layerTest plan layers) t (length plan) ≡ scan (layerTest plan layers) 0 (length plan))
+Inv-loop plan layers t₀ t = (t ≤ length plan) × (scan (planLayerTest plan layers) t (length plan) ≡ scan (planLayerTest plan layers) 0 (length plan))
 
 abbrev μ-loop : tie.MeasureT-loop
 μ-loop plan layers t₀ t = length plan - t
@@ -30,7 +30,7 @@ wide-requires c κs = search needs
 returns : tie.Need-returns Inv-loop μ-loop
 returns c =
     λ n e.
-    sym (scan-no _ _ (c .before .before .before .loop-test .taken) (layer-out _ _ _ (c .before .wide .ensures) (c .if1 .taken))) ∙
+    sym (scan-no _ _ (c .before .before .before .loop-test .taken) (layer-fails _ _ _ (c .before .wide .ensures) (c .if1 .taken))) ∙
     (c .before .before .before .before .loop .inv .1 ∙ layers-scan n _ e)
 
 add-t : tie.Need-add-t Inv-loop μ-loop
@@ -42,7 +42,7 @@ loop-less c = search needs
 loop-again : tie.Need-loop-again Inv-loop μ-loop
 loop-again c = (
   omega arith,
-  sym (scan-more _ _ (c .before .before .before .loop-test .taken) (layer-in _ _ _ (c .before .wide .ensures) (c .if1 .left))) ∙
+  sym (scan-more _ _ (c .before .before .before .loop-test .taken) (layer-passes _ _ _ (c .before .wide .ensures) (c .if1 .left))) ∙
       c .before .before .before .before .loop .inv .1,
 )
 

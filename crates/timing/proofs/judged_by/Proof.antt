@@ -1,10 +1,11 @@
 -- `judged_by` is right: cost is the sum over the edges on their layers, and slack follows from the delays under the plan.
 use borrow.Author.Needs.{needs, sfits-of}
 use mathlib.Core.Path.{refl, _∙_}
-use Prim.Native.Nat.{ℕ}
+use Prim.Native.Nat.{ℕ, _+_}
 use lib.ListN.{length-replicate}
 use mir.Syntax.{w64}
 use mir.Facts.{toZ-ofZ}
+use Rattle.rules.specs.Bytes.{maxNodes}
 use Rattle.timing.proofs.judged_by.Statement.{statement}
 use Rattle.timing.proofs.judged_by.Tie as tie
 use Rattle.timing.proofs.judged_by.Reads as reads
@@ -17,7 +18,7 @@ slice-aggregate-plan-delays : tie.Need-slice-aggregate-plan-delays
 slice-aggregate-plan-delays c = search needs
 
 plan-delays-requires : tie.Need-plan-delays-requires
-plan-delays-requires c κs = let s = c .before .before .before .before .before .pre in (s .0, (_, s .1), s .2, length-replicate {A = ℕ} 256 0)
+plan-delays-requires c κs = let s = c .before .before .before .before .before .pre in (s .0, (_, s .1), s .2, length-replicate {A = ℕ} (maxNodes + 1) 0)
 
 plan-cost-requires : tie.Need-plan-cost-requires
 plan-cost-requires c κs = let s = c .before .before .before .before .before .before .before .pre in (s .0, (_, s .1), s .2)

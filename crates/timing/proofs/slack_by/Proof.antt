@@ -2,11 +2,12 @@
 use borrow.Author.Needs.{needs, sfits-of}
 use mathlib.Core.Path.{_≡_, refl, ap, _∙_}
 use mathlib.Core.List.{List}
-use Prim.Native.Nat.{ℕ}
+use Prim.Native.Nat.{ℕ, _+_}
 use native.Mathlib.Omega.{arith}
 use lib.ListN.{length-replicate}
 use mir.Syntax.{w64}
 use mir.Facts.{toZ-ofZ}
+use Rattle.rules.specs.Bytes.{maxNodes}
 use Rattle.rules.specs.Timing.{required}
 use Rattle.words.specs.Words.{netIn}
 use Rattle.words.specs.Held.{held-accepted}
@@ -14,7 +15,7 @@ use Rattle.tree.specs.Plans.{Fitting}
 use Rattle.delays.specs.Delayed.{PlanDelays}
 use Rattle.required.specs.Timed.{Timed}
 use Rattle.required.specs.Links.{stage-links}
-use Rattle.timing.specs.Slack.{slack-is, slack-in, drives-zero}
+use Rattle.timing.specs.Slack.{slack-is, slack-difference, drives-zero}
 use Rattle.timing.proofs.slack_by.Statement.{statement}
 use Rattle.timing.proofs.slack_by.Tie as tie
 use Rattle.timing.proofs.slack_by.Reads as reads
@@ -61,8 +62,8 @@ link-requires : tie.Need-link-requires
 link-requires c κs =
     stage-links (c .before .before .before .before .before .before .pre .0 .1) (c .before .before .before .before .before .before .pre .1) (omega (
       arith,
-      length-replicate {A = ℕ} 256 0,
-    )) (omega (arith, length-replicate {A = ℕ} 256 0))
+      length-replicate {A = ℕ} (maxNodes + 1) 0,
+    )) (omega (arith, length-replicate {A = ℕ} (maxNodes + 1) 0))
 
 slice-aggregate-stage-required : tie.Need-slice-aggregate-stage-required
 slice-aggregate-stage-required c = search needs
@@ -81,7 +82,7 @@ arrival-requires c κs = (_, _, c .before .before .before .before .before .befor
 minus-requires : tie.Need-minus-requires
 minus-requires c κs =
     let s = c .before .before .before .before .before .before .before .before .before .before .before .before .before .pre in
-    rw (toZ-ofZ (sfits-of {w = w64} (c .before .stage-required .ok)), toZ-ofZ (sfits-of {w = w64} (c .arrival .ok))) (slack-in (held-accepted (s .0 .1))
+    rw (toZ-ofZ (sfits-of {w = w64} (c .before .stage-required .ok)), toZ-ofZ (sfits-of {w = w64} (c .arrival .ok))) (slack-difference (held-accepted (s .0 .1))
     (s .2 .0) (time-is (c .before) (s .2 .0) (s .2 .1) (s .2 .2)) (c .arrival .ensures))
 
 returns : tie.Need-returns

@@ -6,7 +6,7 @@ use native.Mathlib.Omega.{arith}
 use Rattle.words.specs.declared.Node.{Node}
 use Rattle.words.specs.Words.{netIn}
 use Rattle.words.specs.Held.{held-accepted}
-use Rattle.tree.specs.Staged.{Passing, Turn, turn, passing-start, passing-end}
+use Rattle.tree.specs.Staged.{Passing, StageTurn, stage-turn, passing-start, passing-end}
 use Rattle.tree.proofs.stages.Statement.{statement}
 use Rattle.tree.proofs.stages.Tie as tie
 use Rattle.tree.proofs.stages.Reads as reads
@@ -21,9 +21,9 @@ Inv-loop words nodes stage₀ below₀ count₀ j₀ stage below count j = Passi
 abbrev μ-loop : tie.MeasureT-loop
 μ-loop words nodes stage₀ below₀ count₀ j₀ stage below count j = nodes + 1 - j
 
-here : (c : tie.In-loop Inv-loop μ-loop) → Turn (netIn (c .before .before .before .before .before .args .words .now)) (c .before .loop .stage)
+here : (c : tie.In-loop Inv-loop μ-loop) → StageTurn (netIn (c .before .before .before .before .before .args .words .now)) (c .before .loop .stage)
     (c .before .loop .below) (c .before .loop .j) (c .before .loop .count)
-here c = turn (held-accepted (c .before .before .before .before .before .pre .0 .1)) (c .before .loop .inv)
+here c = stage-turn (held-accepted (c .before .before .before .before .before .pre .0 .1)) (c .before .loop .inv)
     (omega (arith, c .before .before .before .before .before .pre .0 .1 .nodes-are, c .loop-test .taken))
 
 slice-write-below : tie.Need-slice-write-below Inv-loop μ-loop

@@ -3,7 +3,7 @@ use borrow.Author.Needs.{needs}
 use native.Mathlib.Omega.{arith}
 use mathlib.Core.Path.{_≡_}
 use Prim.Native.Nat.{ℕ}
-use Rattle.vorphiel.proofs.Checking.{refused, found, few}
+use Rattle.vorphiel.proofs.Checking.{checked-refused, checked-found, few-read}
 use Rattle.vorphiel.proofs.check.Statement.{statement}
 use Rattle.vorphiel.proofs.check.Tie as tie
 use Rattle.vorphiel.proofs.check.Reads as reads
@@ -20,16 +20,16 @@ enum-known-found : tie.Need-enum-known-found
 enum-known-found c = search needs
 
 add-t11 : tie.Need-add-t11
-add-t11 c = let h = few (rw (c .before .found .given .1) at (c .before .before .before .before .read .ensures)) in omega arith
+add-t11 c = let h = few-read (rw (c .before .found .given .1) at (c .before .before .before .before .read .ensures)) in omega arith
 
 enum-known-found-2 : tie.Need-enum-known-found-2
 enum-known-found-2 c = search needs
 
 returns : tie.Need-returns
-returns c = found (rw (c .before .found .given .1) at (c .before .before .before .before .read .ensures))
+returns c = checked-found (rw (c .before .found .given .1) at (c .before .before .before .before .read .ensures))
 
 returns-2 : tie.Need-returns-2
-returns-2 c = refused (rw (c .before .found2 .given .1) at (c .before .before .before .before .read .ensures))
+returns-2 c = checked-refused (rw (c .before .found2 .given .1) at (c .before .before .before .before .read .ensures))
 
 pub check-spec : {M : Type 1} → statement M
 check-spec =

@@ -13,6 +13,7 @@ use Rattle.vorphiel.proofs.judge.Lts as lts
 use Rattle.reader.proofs.read.Reads as read-reads
 use Rattle.timing.proofs.are_layers.Reads as are-layers-reads
 use Rattle.timing.proofs.judged.Reads as judged-reads
+use Rattle.timing.proofs.judging_refused.Reads as judging-refused-reads
 use Rattle.vorphiel.proofs.net_refusal.Reads as net-refusal-reads
 
 kept : (c : tie.After-known-told)
@@ -36,24 +37,35 @@ enum-told c = search needs
 net-refusal-requires : tie.Need-net-refusal-requires
 net-refusal-requires c κs = search needs
 
+judging-refused-requires : tie.Need-judging-refused-requires
+judging-refused-requires c κs = search needs
+
 returns : tie.Need-returns
 returns c =
-    rw (c .net-refusal .ensures ∙ ap netRefusal (c .before .enum-told .given .1))
-    (judge-unread _ _ (rw (c .before .enum-told .given .1) at (c .before .before .before .before .read .ensures)))
+    c .judging-refused .ensures ∙
+    (rw (c .before .net-refusal .ensures ∙ ap netRefusal (c .before .before .enum-told .given .1))
+    (judge-unread _ _ (rw (c .before .before .enum-told .given .1) at (c .before .before .before .before .before .read .ensures))))
 
 are-layers-requires : tie.Need-are-layers-requires
 are-layers-requires c κs = search needs
 
+judging-refused-requires-2 : tie.Need-judging-refused-requires-2
+judging-refused-requires-2 c κs = search needs
+
 returns-2 : tie.Need-returns-2
 returns-2 c =
-    let k = kept (c .before .before) in
-    judge-7 _ _ k (λ e. eqb-false _ _ (not-true _ (c .if1 .taken)) (e ∙ sym (k .stages-are)))
+    let k = kept (c .before .before .before) in
+    c .judging-refused2 .ensures ∙ judge-7 _ _ k (λ e. eqb-false _ _ (not-true _ (c .before .if1 .taken)) (e ∙ sym (k .stages-are)))
+
+judging-refused-requires-3 : tie.Need-judging-refused-requires-3
+judging-refused-requires-3 c κs = search needs
 
 returns-3 : tie.Need-returns-3
 returns-3 c =
-    let k = kept (c .before .before .before) in
-    judge-8 _ _ k (eqb-true _ _ (not-false _ (c .before .if1 .left)) ∙ k .stages-are) (sym (c .before .before .are-layers .ensures _
-    (k .held .layers-are)) ∙ not-true _ (c .if2 .taken))
+    let k = kept (c .before .before .before .before) in
+    c .judging-refused3 .ensures ∙
+    judge-8 _ _ k (eqb-true _ _ (not-false _ (c .before .before .if1 .left)) ∙ k .stages-are) (sym (c .before .before .before .are-layers .ensures _
+    (k .held .layers-are)) ∙ not-true _ (c .before .if2 .taken))
 
 slice-aggregate-judged : tie.Need-slice-aggregate-judged
 slice-aggregate-judged c = search needs
@@ -82,9 +94,12 @@ judge-spec =
     enum-known-found
     enum-told
     net-refusal-requires
+    judging-refused-requires
     returns
     are-layers-requires
+    judging-refused-requires-2
     returns-2
+    judging-refused-requires-3
     returns-3
     slice-aggregate-judged
     judged-requires

@@ -1,7 +1,7 @@
 -- `planned` is right: it meets the refusals in the definition's order, and what is left after them is planned.
 use borrow.Author.Needs.{needs}
 use mathlib.Core.Path.{ap, sym, _∙_}
-use borrow.Author.Tests.{not-true, not-false}
+use borrow.Author.Tests.{not-true, not-false, leb-true, leb-false}
 use Rattle.reader.specs.Kept.{Kept, held-read}
 use Rattle.planning.specs.Calls.{refusedWith}
 use Rattle.vorphiel.specs.Answers.{netRefusal}
@@ -10,11 +10,11 @@ use Rattle.vorphiel.proofs.planned.Statement.{statement}
 use Rattle.vorphiel.proofs.planned.Tie as tie
 use Rattle.vorphiel.proofs.planned.Reads as reads
 use Rattle.vorphiel.proofs.planned.Lts as lts
+use Rattle.fields.proofs.share_in_range.Reads as share-in-range-reads
 use Rattle.planning.proofs.plan_net.Reads as plan-net-reads
 use Rattle.planning.proofs.refused.Reads as refused-reads
 use Rattle.reader.proofs.read.Reads as read-reads
 use Rattle.vorphiel.proofs.net_refusal.Reads as net-refusal-reads
-use Rattle.vorphiel.proofs.share_in_range.Reads as share-in-range-reads
 
 kept : (c : tie.After-known-told)
     → Kept (c .before .before .before .before .before .before .before .before .args .net .now) (c .before .before .before .before .read .last .1 .1 .0)
@@ -63,7 +63,7 @@ returns-3 : tie.Need-returns-3
 returns-3 c =
     rw (c .refused3 .ensures)
     (plan-10 _ _ _ _ _ (kept (c .before .before .before .before)) (sym (c .before .before .before .share-in-range .ensures) ∙ not-false _
-    (c .before .before .if1 .left)) (c .before .if2 .taken))
+    (c .before .before .if1 .left)) (leb-false _ _ (not-true _ (c .before .if2 .taken))))
 
 slice-aggregate-plan-net : tie.Need-slice-aggregate-plan-net
 slice-aggregate-plan-net c = search needs
@@ -73,7 +73,7 @@ plan-net-requires c κs =
     admitted _ _ _ (c .before .before .before .before .before .before .before .before .before .before .before .before .before .before .args .table .now)
     (c .before .before .before .before .before .before .before .before .before .before .before .before .before .before .args .buffer .now) (kept
     (c .before .before .before .before .before .before)) (sym (c .before .before .before .before .before .share-in-range .ensures) ∙ not-false _
-    (c .before .before .before .before .if1 .left)) (c .before .before .before .if2 .left)
+    (c .before .before .before .before .if1 .left)) (leb-true _ _ (not-false _ (c .before .before .before .if2 .left)))
 
 same-length : tie.Need-same-length
 same-length c = search needs

@@ -6,7 +6,7 @@ use lib.ListN.{getD}
 use Prim.Native.Nat.{_-_}
 use native.Mathlib.Omega.{arith}
 use Rattle.windows.specs.Contracts.{DelayRange}
-use Rattle.windows.proofs.Opening.{range-start, range-more, range-end}
+use Rattle.windows.proofs.Opening.{delays-start, delays-more, delays-end}
 use Rattle.windows.proofs.delay_range.Statement.{statement}
 use Rattle.windows.proofs.delay_range.Tie as tie
 
@@ -26,7 +26,7 @@ shared-slice-read-least : tie.Need-shared-slice-read-least Inv-loop μ-loop
 shared-slice-read-least c = search needs
 
 loop-holds : tie.Need-loop-holds Inv-loop μ-loop
-loop-holds c = range-start (c .before .pre .0) (ap (λ m. getD (c .before .args .delay .now) m 0) (omega arith))
+loop-holds c = delays-start (c .before .pre .0) (ap (λ m. getD (c .before .args .delay .now) m 0) (omega arith))
 
 add-d : tie.Need-add-d Inv-loop μ-loop
 add-d c = search needs
@@ -45,12 +45,12 @@ loop-less c = search needs
 
 loop-again : tie.Need-loop-again Inv-loop μ-loop
 loop-again c =
-    range-more (c .before .before .before .before .loop .inv) (omega arith) refl
+    delays-more (c .before .before .before .before .loop .inv) (omega arith) refl
     (⊎-elim (λ w. inl (w .0 .taken, w .1)) (λ w. inr (w .0 .left, w .1)) (c .before .if1 .came))
     (⊎-elim (λ w. inl (w .0 .taken, w .1)) (λ w. inr (w .0 .left, w .1)) (c .if2 .came))
 
 returns : tie.Need-returns Inv-loop μ-loop
-returns c = range-end (c .before .loop .inv) (omega arith)
+returns c = delays-end (c .before .loop .inv) (omega arith)
 
 pub delay-range-spec : {M : Type 1} → statement M
 delay-range-spec =

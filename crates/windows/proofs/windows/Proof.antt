@@ -5,37 +5,41 @@ use mathlib.Core.Path.{_∙_}
 use lib.ListN.{getD, length-set}
 use mir.Facts.{toZ-ofZ}
 use mir.Syntax.{w64}
-use mir.Val.{toZ}
+use mir.Val.{SFits}
 use borrow.Author.Needs.{needs, sfits-of}
-use Rattle.readoff.specs.Contracts.{timeAt}
-use Rattle.windows.proofs.Opening.{Opening, Next, delayed-same, opening-start, next-stage, opening-more, opening-end, sum-is}
+use Rattle.slices.specs.Laid.{timeAt}
+use Rattle.windows.proofs.Opening.{Opening, Next, opening-start, next-stage, opening-more, opening-end, sum-is}
 use Rattle.windows.proofs.windows.Statement.{statement}
 use Rattle.windows.proofs.windows.Tie as tie
 
 abbrev Inv-loop : tie.InvT-loop
-Inv-loop driver delay stages layers arrival early₀ late₀ j₀ early late j = Opening driver delay stages layers (toZ w64 arrival) early₀ late₀ early late j
+Inv-loop driver delay n early₀ late₀ arrival j₀ early late j = Opening driver delay (n .stages) (n .layers) (n .arrival) early₀ late₀ early late j
 
 abbrev μ-loop : tie.MeasureT-loop
-μ-loop driver delay stages layers arrival early₀ late₀ j₀ early late j = stages - j
+μ-loop driver delay n early₀ late₀ arrival j₀ early late j = n .stages - j
 
-abbrev begin : tie.In-loop Inv-loop μ-loop → tie.Start Inv-loop μ-loop
-begin c = c .before .before .before .before
+abbrev begin : tie.Then1 Inv-loop μ-loop → tie.Start Inv-loop μ-loop
+begin c = c .before .before .before .before .before .before
 
 -- What is known of stage j in the loop.
-next : (c : tie.In-loop Inv-loop μ-loop)
-    → Next (begin c .args .driver .now) (begin c .args .delay .now) (begin c .args .layers) (c .before .loop .early) (c .before .loop .late) (c .before .loop .j)
+next : (c : tie.Then1 Inv-loop μ-loop)
+    → Next (begin c .args .driver .now) (begin c .args .delay .now) (begin c .args .n .layers)
+    (c .before .before .loop .early) (c .before .before .loop .late) (c .before .before .loop .j)
 next c =
     let s = begin c in
-    next-stage (c .before .loop .inv) (c .loop-test .taken) (s .pre .0 .0) (delayed-same (toZ-ofZ (s .fits .arrival)) (s .pre .0 .1)) (simp length-set (s .pre .1)) (simp length-set (s .pre .2))
+    next-stage (c .before .before .loop .inv) (c .if1 .taken) (s .pre .0 .0) (s .pre .0 .1) (simp length-set (s .pre .1)) (simp length-set (s .pre .2))
 
 slice-set-from-arrival : tie.Need-slice-set-from-arrival Inv-loop μ-loop
-slice-set-from-arrival c = let s = c .before .before in omega (arith, s .pre .0 .1 .some-stage, s .pre .0 .1 .stages-are)
+slice-set-from-arrival c = let s = c .before .before .before in omega (arith, s .pre .0 .1 .some-stage, s .pre .0 .1 .stages-are)
 
 slice-set-from-arrival-2 : tie.Need-slice-set-from-arrival-2 Inv-loop μ-loop
-slice-set-from-arrival-2 c = let s = c .before .before in omega (arith, s .pre .0 .1 .some-stage, s .pre .0 .1 .stages-are)
+slice-set-from-arrival-2 c = let s = c .before .before .before in omega (arith, s .pre .0 .1 .some-stage, s .pre .0 .1 .stages-are)
 
 loop-holds : tie.Need-loop-holds Inv-loop μ-loop
-loop-holds c = let s = c .before .before in opening-start (s .args .early .now) (s .args .late .now) (s .pre .0 .0) (delayed-same (toZ-ofZ (s .fits .arrival)) (s .pre .0 .1)) (s .pre .1) (s .pre .2)
+loop-holds c =
+    let s = c .before .before .before in
+    let fits : SFits w64 (s .args .n .arrival) = search needs in
+    rw (toZ-ofZ fits) (opening-start (s .args .early .now) (s .args .late .now) (s .pre .0 .0) (s .pre .0 .1) (s .pre .1) (s .pre .2))
 
 mul-i : tie.Need-mul-i Inv-loop μ-loop
 mul-i c = search needs
@@ -91,23 +95,24 @@ loop-less c = search needs
 loop-again : tie.Need-loop-again Inv-loop μ-loop
 loop-again c =
     let q = c .before .before .before .before .before .before in
-    let l = q .before .loop in
+    let l = q .before .before .loop in
     let n = next q in
     let range = c .before .before .before .before .delay-range in
     let i = getD (begin q .args .driver .now) (l .j) 0 in
-    opening-more (l .inv) (q .loop-test .taken) (range .ensures)
-    (sum-is (timeAt (l .early) i) (range .result .least) (toZ-ofZ (sfits-of (c .before .after .ok))) (c .before .after .ensures) (sfits-of (c .before .before .before .a .given)))
+    opening-more (l .inv) (q .if1 .taken) (range .ensures)
+    (sum-is (timeAt (l .early) i) (range .result .least) (toZ-ofZ (sfits-of (c .before .after .ok)))
+    (c .before .after .ensures) (sfits-of (c .before .before .before .a .given)))
     (sum-is (timeAt (l .late) i) (range .result .most) (toZ-ofZ (sfits-of (c .after2 .ok))) (c .after2 .ensures) (sfits-of (c .before .before .b .given)))
     (n .early-long) (n .late-long)
 
 same-length : tie.Need-same-length Inv-loop μ-loop
-same-length c = c .before .loop .inv .early-long ∙ simp length-set
+same-length c = c .before .before .loop .inv .early-long ∙ simp length-set
 
 same-length-2 : tie.Need-same-length-2 Inv-loop μ-loop
-same-length-2 c = c .before .loop .inv .late-long ∙ simp length-set
+same-length-2 c = c .before .before .loop .inv .late-long ∙ simp length-set
 
 returns : tie.Need-returns Inv-loop μ-loop
-returns c = λ T N. opening-end (c .before .loop .inv) (c .loop-test .left) T (delayed-same (toZ-ofZ (c .before .before .before .before .fits .arrival)) N)
+returns c = opening-end (c .before .before .loop .inv) (c .if1 .left)
 
 pub windows-spec : {M : Type 1} → statement M
 windows-spec =

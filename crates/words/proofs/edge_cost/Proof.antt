@@ -3,7 +3,7 @@ use borrow.Author.Needs.{needs}
 use mathlib.Core.Path.{sym}
 use Prim.Native.Nat.{_+_}
 use native.Mathlib.Omega.{arith}
-use Rattle.words.specs.Words.{rowAt, costsFrom}
+use Rattle.words.specs.Words.{nodeRow, costsFrom}
 use Rattle.words.specs.Held.{row-in}
 use Rattle.words.proofs.edge_cost.Statement.{statement}
 use Rattle.words.proofs.edge_cost.Tie as tie
@@ -29,7 +29,7 @@ shared-slice-read-result : tie.Need-shared-slice-read-result
 shared-slice-read-result c = search needs
 
 cast-result : tie.Need-cast-result
-cast-result c = record { fits = omega (arith, c .shared-slice-known .given (rowAt (c .before .args .j) + costsFrom + c .before .args .l)) }
+cast-result c = record { fits = omega (arith, c .shared-slice-known .given (nodeRow (c .before .args .j) + costsFrom + c .before .args .l)) }
 
 returns : tie.Need-returns
 returns c = sym (row-in (c .before .pre .2) (c .before .pre .3) (c .before .pre .4) .cost-is _ (c .before .pre .5))

@@ -3,7 +3,7 @@ use borrow.Author.Needs.{needs}
 use mathlib.Core.Path.{refl}
 use Prim.Native.Nat.{_+_}
 use native.Mathlib.Omega.{arith}
-use Rattle.words.specs.Words.{rowAt}
+use Rattle.words.specs.Words.{nodeRow}
 use Rattle.words.proofs.Cells.{record-of}
 use Rattle.words.proofs.node_in.Statement.{statement}
 use Rattle.words.proofs.node_in.Tie as tie
@@ -63,7 +63,7 @@ shared-slice-read-parent : tie.Need-shared-slice-read-parent
 shared-slice-read-parent c = search needs
 
 cast-parent : tie.Need-cast-parent
-cast-parent c = omega (arith, c .shared-slice-known6 .given (rowAt (c .before .before .before .before .before .before .before .args .j) + 1))
+cast-parent c = omega (arith, c .shared-slice-known6 .given (nodeRow (c .before .before .before .before .before .before .before .args .j) + 1))
 
 add-len : tie.Need-add-len
 add-len c = search needs
@@ -75,7 +75,7 @@ shared-slice-read-len : tie.Need-shared-slice-read-len
 shared-slice-read-len c = search needs
 
 cast-len : tie.Need-cast-len
-cast-len c = omega (arith, c .shared-slice-known7 .given (rowAt (c .before .before .before .before .before .before .before .before .args .j) + 2))
+cast-len c = omega (arith, c .shared-slice-known7 .given (nodeRow (c .before .before .before .before .before .before .before .before .args .j) + 2))
 
 returns : tie.Need-returns
 returns c = record-of _ _ refl refl (c .before .before .kind-of .ensures)

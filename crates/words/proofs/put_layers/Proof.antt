@@ -5,7 +5,7 @@ use Prim.Native.Nat.{_-_}
 use native.Mathlib.Omega.{arith}
 use lib.ListN.{length, length-set}
 use borrow.Author.Tests.{not-true, not-false}
-use Rattle.words.proofs.Layers.{Layering, layering-start, layering-res, layering-cap, layering-more, layering-end}
+use Rattle.words.proofs.Layers.{LayersSoFar, layering-start, layering-res, layering-cap, layering-more, layering-end}
 use Rattle.words.proofs.put_layers.Statement.{statement}
 use Rattle.words.proofs.put_layers.Tie as tie
 use Rattle.words.proofs.put_layers.Reads as reads
@@ -14,7 +14,7 @@ use Rattle.fields.proofs.number.Reads as number-reads
 use Rattle.fields.proofs.within.Reads as within-reads
 
 abbrev Inv-loop : tie.InvT-loop
-Inv-loop net at layers words₀ l₀ words l = Layering net layers at (length words₀) words l
+Inv-loop net at layers words₀ l₀ words l = LayersSoFar net layers at (length words₀) words l
 
 abbrev μ-loop : tie.MeasureT-loop
 μ-loop net at layers words₀ l₀ words l = layers - l

@@ -1,0 +1,66 @@
+//! The calls of `include/vorphiel.h` in Rust. This is the one place where their C signatures stand.
+//!
+//! A call is given its parameters as a struct, by their names in C: so a host makes it with `make`, and another implementation can stand in the
+//! library's place as functions of the same structs.
+
+/// From the list of the C functions: their declarations, and for each a struct of its parameters.
+macro_rules! c_calls {
+    ($($(#[$about:meta])* $call:ident = $function:ident($($parameter:ident: $kind:ty),* $(,)?) -> $answer:ty;)*) => {
+        extern "C" {
+            $(fn $function($($parameter: $kind),*) -> $answer;)*
+        }
+
+        $(
+            $(#[$about])*
+            pub struct $call {
+                $(pub $parameter: $kind,)*
+            }
+
+            impl $call {
+                /// Makes the call of the linked library.
+                ///
+                /// # Safety
+                ///
+                /// Each pointer is valid for the length given with it, that of a result for one number; what is written overlaps nothing else.
+                #[inline] // Compiled only where it is used: a program that does not make the call can be linked without the library.
+                pub unsafe fn make(self) -> $answer {
+                    $function($(self.$parameter),*)
+                }
+            }
+        )*
+    };
+}
+
+c_calls! {
+    /// Reads a net. The answer is a refusal's number, 0 if there is none; so also in `Judge` and `Plan`.
+    Check = vorphiel_check(net: *const u8, net_len: usize, nodes: *mut u64, stages: *mut u64, layers: *mut u64) -> u8;
+
+    /// Judges a plan.
+    Judge = vorphiel_judge(
+        net: *const u8,
+        net_len: usize,
+        plan: *const u8,
+        plan_len: usize,
+        cost: *mut u64,
+        slack: *mut i64,
+    ) -> u8;
+
+    /// Plans a net.
+    Plan = vorphiel_plan(
+        net: *const u8,
+        net_len: usize,
+        p: u64,
+        q: u64,
+        table: *mut i64,
+        table_len: usize,
+        plan: *mut u8,
+        plan_len: usize,
+        cost: *mut u64,
+        slack: *mut i64,
+        k: *mut u64,
+        floor: *mut u64,
+    ) -> u8;
+
+    /// The wall chart's number, 0 where it has none.
+    TableEntries = vorphiel_table_entries(s: u64, q: u64) -> u64;
+}

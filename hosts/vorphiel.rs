@@ -1,0 +1,142 @@
+//! The calls of `include/vorphiel.h` on slices: safe, as every call answers for every input, so that none of them has a condition of its own.
+//!
+//! Another program takes this file, with `c_calls.rs` beside it, by `#[path = "hosts/vorphiel.rs"] mod vorphiel;`, and is built with `-L` and the
+//! folder of `libvorphiel.a`.
+#![allow(dead_code)] // A host need not make every call.
+
+#[path = "c_calls.rs"] // Beside this file, wherever it is taken from.
+mod c_calls;
+
+use c_calls::{Check, Judge, Plan, TableEntries};
+use std::fmt;
+
+// Links the library; its calls are declared in `c_calls.rs`.
+#[link(name = "vorphiel", kind = "static")]
+extern "C" {}
+
+/// The largest p and the largest q of a share p/q.
+pub const MOST_SHARE: u64 = 1_000;
+
+/// A refusal by its number, 1 to 12; shown in words.
+#[derive(Clone, Copy, Debug, PartialEq, Eq)]
+pub struct Refusal(pub u8);
+
+impl fmt::Display for Refusal {
+    fn fmt(&self, f: &mut fmt::Formatter) -> fmt::Result {
+        f.write_str(match self.0 {
+            1 => "a field is due and fewer than three bytes are left, or its payload is not all there",
+            2 => "a tag that is not allowed there, or a length that its kind does not have",
+            3 => "a number outside its range",
+            4 => "a 256th node after the driver, or a 64th buffer",
+            5 => "a bad parent: not a lower number, a sink, or one that has two children already",
+            6 => "a childless node that is no sink",
+            7 => "the plan's length is not the number of stages",
+            8 => "a layer number that is not below the layer count",
+            9 => "the share is out of range: P is at most 1,000 and Q is 1 to 1,000",
+            10 => "the plan buffer is shorter than the number of stages",
+            11 => "no plan of this net meets timing",
+            12 => "the table has too few columns; a larger share needs fewer",
+            _ => "a refusal that this host does not know",
+        })
+    }
+}
+
+impl std::error::Error for Refusal {}
+
+/// What a net has; the driver is one of its nodes.
+#[derive(Clone, Copy, Debug, Default, PartialEq, Eq)]
+pub struct Counts {
+    pub nodes: u64,
+    pub stages: u64,
+    pub layers: u64,
+}
+
+/// A plan's cost, and its slack in ticks, which may be negative.
+#[derive(Clone, Copy, Debug, Default, PartialEq, Eq)]
+pub struct Judged {
+    pub cost: u64,
+    pub slack: i64,
+}
+
+/// What is said of the plan found: its cost and slack, the exponent of the grain 2^k, and the floor: at most the cost of every plan that meets timing.
+#[derive(Clone, Copy, Debug, Default, PartialEq, Eq)]
+pub struct Planned {
+    pub cost: u64,
+    pub slack: i64,
+    pub k: u64,
+    pub floor: u64,
+}
+
+fn accepted<T>(refusal: u8, answer: T) -> Result<T, Refusal> {
+    if refusal == 0 {
+        Ok(answer)
+    } else {
+        Err(Refusal(refusal))
+    }
+}
+
+/// Reads a net: its counts, or the first fault met (1 to 6).
+pub fn check(net: &[u8]) -> Result<Counts, Refusal> {
+    let mut found = Counts::default();
+    let Counts { nodes, stages, layers } = &mut found;
+    let call = Check { net: net.as_ptr(), net_len: net.len(), nodes, stages, layers };
+    // SAFETY: the slice's pointer is valid for its length: if it is empty, not null and never read. The results are fields of a local of
+    // our own, so they overlap neither each other nor the net.
+    let refusal = unsafe { call.make() };
+    accepted(refusal, found)
+}
+
+/// Judges a plan, one layer number a stage. Refusals: 1 to 6, 7, 8.
+pub fn judge(net: &[u8], plan: &[u8]) -> Result<Judged, Refusal> {
+    let mut found = Judged::default();
+    let Judged { cost, slack } = &mut found;
+    let call = Judge { net: net.as_ptr(), net_len: net.len(), plan: plan.as_ptr(), plan_len: plan.len(), cost, slack };
+    // SAFETY: as in `check`, for both slices. The library only reads them, so it does no harm if the caller lends the same bytes twice.
+    let refusal = unsafe { call.make() };
+    accepted(refusal, found)
+}
+
+/// Plans a net with share p/q: on acceptance the plan opens the buffer `plan`, one layer number a stage. Refusals: 1 to 6, 9, 10, 11, 12.
+pub fn plan(net: &[u8], p: u64, q: u64, table: &mut [i64], plan: &mut [u8]) -> Result<Planned, Refusal> {
+    let mut found = Planned::default();
+    let Planned { cost, slack, k, floor } = &mut found;
+    let call = Plan {
+        net: net.as_ptr(),
+        net_len: net.len(),
+        p,
+        q,
+        table: table.as_mut_ptr(),
+        table_len: table.len(),
+        plan: plan.as_mut_ptr(),
+        plan_len: plan.len(),
+        cost,
+        slack,
+        k,
+        floor,
+    };
+    // SAFETY: each slice's pointer is valid for its length, as in `check`; table and plan buffer are lent by `&mut`, so Rust keeps them apart
+    // from each other and from the net, and nobody else sees them during the call. The results are fields of a local of our own.
+    let refusal = unsafe { call.make() };
+    accepted(refusal, found)
+}
+
+/// The wall chart's number: the entries that always serve a net of this many stages, 1 to 64, at share 1/q, q from 1 to 10. None where the chart has none.
+pub fn table_entries(stages: u64, q: u64) -> Option<u64> {
+    // SAFETY: numbers only, and the call answers for all of them.
+    let entries = unsafe { TableEntries { s: stages, q }.make() };
+    (entries > 0).then_some(entries)
+}
+
+/// A table length that is never too short for a net of this many stages: the chart's number where it has one, else (s + ceil(2qs / p)) * (s + 2). None where
+/// there is no such rule: share 0, whose table depends on the cost of the cheapest plan, and shares out of range, which are refused whatever the table.
+pub fn enough_entries(stages: u64, p: u64, q: u64) -> Option<usize> {
+    let charted = if p == 1 { table_entries(stages, q) } else { None };
+    if let Some(entries) = charted {
+        return usize::try_from(entries).ok();
+    }
+    if !(1..=MOST_SHARE).contains(&p) || !(1..=MOST_SHARE).contains(&q) {
+        return None;
+    }
+    let columns = stages.checked_mul(2 * q)?.div_ceil(p).checked_add(stages)?;
+    usize::try_from(columns.checked_mul(stages.checked_add(2)?)?).ok()
+}
