@@ -19,7 +19,7 @@ pub record PlanTreeIn (driver delay : List ℕ) (limit : List ℤ) (cost : List 
   pub problem : Problem tree driver delay limit cost stages layers arrival p q
   pub plan-long : stages ≤ length plan
 
--- The slices hold some tree, and there is room for a plan that is known.
+-- search_tree: the slices hold some tree, and there is room for a plan of it.
 pub record SearchIn (driver delay : List ℕ) (limit : List ℤ) (cost : List ℕ) (stages layers : ℕ) (arrival : ℤ) (p q : ℕ) (known : List ℕ) : Type 0 where
   pub tree : StageTree
   pub problem : Problem tree driver delay limit cost stages layers arrival p q
@@ -41,7 +41,7 @@ Left stages known table tableAfter plan planAfter (Found k g v) =
     (tableAfter ≡ replicate (length table) (pos 0)) × (planAfter ≡ planIn stages known ++ drop stages plan)
 
 module _ (T : StageTree) (p q stages : ℕ) (table tableAfter : List ℤ) (plan planAfter : List ℕ) where
-  -- The tableColumns of the table: its length divided by s + 2, rounded down.
+  -- The columns of the table: its length divided by s + 2, rounded down.
   abbrev pub tableColumns : ℕ
   tableColumns = length table / (stages + 2)
 
@@ -51,7 +51,7 @@ module _ (T : StageTree) (p q stages : ℕ) (table tableAfter : List ℤ) (plan 
     pub table-kept : tableAfter ≡ table
     pub plan-kept : planAfter ≡ plan
 
-  -- Some plan meets timing, but there are fewer than V(k) + 1 tableColumns; the table is all zero, the plan buffer keeps its values.
+  -- Some plan meets timing, but there are fewer than V(k) + 1 columns; the table is all zero, the plan buffer keeps its values.
   pub record IsShort : Type 0 where
     pub meeting : (x : List ℕ) × MeetingPlan T x
     pub few : tableColumns < value T (exponent T p q) + 1
