@@ -3,14 +3,14 @@
  *     fuzz SEED SECONDS NET...
  *
  * Random nets are made from the nets in the files, from nets grown here, and from rubbish; vorphiel_check, vorphiel_judge and vorphiel_plan are called on
- * them with random plans, shares, tables and plan buffers, and vorphiel_table_entries with random numbers. After each call it is seen whether what the header
- * promises came true. There is no second planner here: the calls are held against each other and against the header (the comparison with a plain search is in
- * tests/).
+ * them with random plans, shares, tables and plan buffers, vorphiel_report on blocks of them, whole and damaged, and vorphiel_table_entries with random
+ * numbers. After each call it is seen whether what the header promises came true. There is no second planner here: the calls are held against each other and
+ * against the header (the comparison with a plain search is in tests/).
  *
  * The library is a finished archive that no sanitizer has seen. So every buffer is lent flush with the start or the end of its pages, with pages that may not
  * be touched before and behind, and what is only to be read stands in pages that cannot be written: a stray read or write ends in a signal.
  *
- * The first fault ends the run with status 1 and a report on standard output. The report is itself a net in hexadecimal with comments, as in nets/. The same
+ * The first fault ends the run with status 1 and says on standard output what was wrong: a net or block in hexadecimal with comments, as in nets/. The same
  * seed and files give the same calls, however many seconds are given; after the last second a summary is printed, and the status is 0. Wrong use: status 2. */
 #define _DEFAULT_SOURCE
 #include "vorphiel.h"
@@ -26,7 +26,9 @@
 #include <unistd.h>
 
 enum {
-    MOST_NET = 48 * 1024,    /* bytes of a net tried here; the longest that can be accepted has 20,483 */
+    MOST_BLOCK = 64 * 1024,  /* bytes of a block that is read */
+    MOST_TRIED = MOST_BLOCK + 64, /* bytes of a block tried here */
+    MOST_NET = MOST_BLOCK,   /* bytes of a net tried here; the longest that can be accepted has 20,483 */
     MOST_FIELDS = 600,       /* fields that are told apart in a net */
     MOST_PLACES = 64,        /* numbers in a field */
     MOST_TABLE = 48 * 1024,  /* entries of a table: more than enough for 64 stages at share 1/4 */
@@ -72,7 +74,7 @@ static int64_t between(int64_t low, int64_t high)
 
 /* ---- Lent buffers ---- */
 
-enum { NET, PLAN, TABLE, RESULTS, LENT = RESULTS + 4 };
+enum { NET, PLAN, TABLE, BLOCK, RESULTS, LENT = RESULTS + 4 };
 
 /* Pages with a guard before and behind, and what is lent of them. */
 struct lent {
@@ -84,8 +86,8 @@ struct lent {
 };
 
 static struct lent lent[LENT] = {
-    {.name = "net"},      {.name = "plan"},     {.name = "table"},    {.name = "result 0"},
-    {.name = "result 1"}, {.name = "result 2"}, {.name = "result 3"},
+    {.name = "net"},      {.name = "plan"},     {.name = "table"},    {.name = "block"},
+    {.name = "result 0"}, {.name = "result 1"}, {.name = "result 2"}, {.name = "result 3"},
 };
 
 /* A guard is wide, so that a wild index falls into it too. Within the pages a margin of known bytes stands on the side that has no guard. */
@@ -109,6 +111,7 @@ static void make_all_lent(void)
     make_lent(&lent[NET], MOST_NET);
     make_lent(&lent[PLAN], MOST_PLAN);
     make_lent(&lent[TABLE], MOST_TABLE * sizeof(int64_t));
+    make_lent(&lent[BLOCK], MOST_TRIED);
     for (int i = RESULTS; i < LENT; i++)
         make_lent(&lent[i], sizeof(uint64_t));
 }
@@ -164,10 +167,10 @@ static void protect(struct lent *l, int how)
 
 /* ---- The call under way, and the report of a fault ---- */
 
-/* The first three are on a net and have refusal numbers; the chart's call has neither. */
-enum { CHECK, JUDGE, PLANNING, CALLS, TABLE_ENTRIES = CALLS };
+/* The first three are on a net and have refusal numbers; the chart's call has neither, and the report's is on a block. */
+enum { CHECK, JUDGE, PLANNING, CALLS, TABLE_ENTRIES = CALLS, REPORT };
 
-static const char *const CALL_NAMES[] = {"vorphiel_check", "vorphiel_judge", "vorphiel_plan", "vorphiel_table_entries"};
+static const char *const CALL_NAMES[] = {"vorphiel_check", "vorphiel_judge", "vorphiel_plan", "vorphiel_table_entries", "vorphiel_report"};
 
 static struct {
     volatile sig_atomic_t under_way;
@@ -232,6 +235,10 @@ static void say_call(void)
         say("\n");
         return;
     }
+    if (now.call == REPORT) {
+        say_lent(&lent[BLOCK], 1);
+        return;
+    }
     say_lent(&lent[NET], 1);
     if (now.call != CHECK)
         say_lent(&lent[PLAN], 1);
@@ -257,7 +264,7 @@ static void fault(const char *what)
     say("\n");
     say_call();
     if (now.call != TABLE_ENTRIES)
-        say_bytes("", &lent[NET]);
+        say_bytes("", &lent[now.call == REPORT ? BLOCK : NET]);
     _exit(1);
 }
 
@@ -475,6 +482,25 @@ static size_t chart_entries(uint64_t s, uint64_t q)
     return entries;
 }
 
+struct block {
+    size_t len;
+    uint8_t bytes[MOST_TRIED];
+};
+
+static struct vorphiel_totals report(const struct block *block)
+{
+    lend(&lent[BLOCK], block->bytes, block->len);
+    protect(&lent[BLOCK], PROT_READ);
+    now.call = REPORT;
+    now.number++;
+    now.under_way = 1;
+    struct vorphiel_totals totals = vorphiel_report(lent[BLOCK].at, lent[BLOCK].len);
+    now.under_way = 0;
+    protect(&lent[BLOCK], PROT_READ | PROT_WRITE);
+    must(margins_kept(&lent[BLOCK]), "bytes beside the block were changed");
+    return totals;
+}
+
 /* ---- Nets as bytes: fields and the numbers in them ---- */
 
 /* Where the fields of a net begin, as far as their heads and payloads are there; at[count] is where the last one ends. */
@@ -483,13 +509,19 @@ struct fields {
     size_t at[MOST_FIELDS + 1];
 };
 
+/* The bytes of the field that has this head, if its payload is there. */
+static size_t field_len(const uint8_t *head)
+{
+    return 3 + 256 * (size_t)head[1] + head[2];
+}
+
 static void find_fields(const struct net *net, struct fields *found)
 {
     size_t at = 0;
     found->count = 0;
     found->at[0] = 0;
     while (found->count < MOST_FIELDS && net->len - at >= 3) {
-        size_t len = 3 + 256 * (size_t)net->bytes[at + 1] + net->bytes[at + 2];
+        size_t len = field_len(net->bytes + at);
         if (net->len - at < len)
             break;
         at += len;
@@ -1030,6 +1062,200 @@ static void try_net(void)
     }
 }
 
+/* ---- One block: the report over it, and its nets planned one by one ---- */
+
+/* Puts a net behind the others, as a field of tag 6, if there is room for it. */
+static void add_net(struct block *block, const struct net *net)
+{
+    uint8_t *at = block->bytes + block->len;
+    if (net->len > UINT16_MAX || block->len + 3 + net->len > MOST_TRIED)
+        return;
+    at[0] = 6;
+    at[1] = (uint8_t)(net->len >> 8);
+    at[2] = (uint8_t)net->len;
+    memcpy(at + 3, net->bytes, net->len);
+    block->len += 3 + net->len;
+}
+
+/* Fills a block up to this length with a net of zeros, if it is shorter by a head or more. */
+static void fill_block(struct block *block, size_t len)
+{
+    static struct net zeros;
+    if (block->len + 3 > len || len > MOST_TRIED)
+        return;
+    zeros.len = len - block->len - 3;
+    add_net(block, &zeros);
+}
+
+/* Another tag or length in some head, bytes cut off or put behind. */
+static void damage_block(struct block *block)
+{
+    size_t at = 0, next;
+    while (at < block->len && (next = at + field_len(block->bytes + at)) < block->len && !one_in(3))
+        at = next;
+    switch (below(5)) {
+    case 0:
+        block->len = below(block->len + 1);
+        break;
+    case 1:
+        block->len -= block->len > 0;
+        break;
+    case 2:
+        for (size_t more = 1 + below(4); more > 0 && block->len < MOST_TRIED; more--)
+            block->bytes[block->len++] = 6;
+        break;
+    case 3:
+        block->bytes[at] = (uint8_t)(one_in(2) ? below(8) : any());
+        break;
+    default:
+        block->bytes[at + 1 + below(2)] ^= (uint8_t)(1u << below(8));
+    }
+}
+
+/* The longest net of the files, the one at the limits; with its last node once more it has too many. */
+static void make_large_net(struct net *net)
+{
+    struct fields fields;
+    const struct net *longest = &pool[0];
+    for (size_t i = 1; i < given; i++)
+        if (pool[i].len > longest->len)
+            longest = &pool[i];
+    copy_net(net, longest);
+    find_fields(net, &fields);
+    if (one_in(2) && fields.count > 0)
+        replace(net, net->len, 0, net->bytes + fields.at[fields.count - 1], net->len - fields.at[fields.count - 1]);
+}
+
+/* A net for a block: as any other, but more often one that is refused with 4 or 12, or one of no bytes. */
+static void make_net_of_block(struct net *net)
+{
+    if (one_in(50))
+        make_large_net(net);
+    else
+        make_net(net);
+    if (one_in(20))
+        net->len = 0;
+}
+
+/* A block to try: mostly few nets, now and then a block about as long as one can be; one in four is damaged. */
+static void make_block(struct block *block)
+{
+    static struct net net;
+    block->len = 0;
+    for (size_t nets = below(one_in(10) ? 40 : 6); nets > 0; nets--) {
+        make_net_of_block(&net);
+        add_net(block, &net);
+    }
+    if (one_in(20))
+        fill_block(block, MOST_BLOCK - 1 + below(3));
+    if (one_in(4))
+        damage_block(block);
+}
+
+/* Whether the bytes are a block, by a walk of our own. */
+static int is_block(const struct block *block)
+{
+    if (block->len > MOST_BLOCK)
+        return 0;
+    for (size_t at = 0, left; (left = block->len - at) > 0; at += field_len(block->bytes + at))
+        if (left < 3 || block->bytes[at] != 6 || left < field_len(block->bytes + at))
+            return 0;
+    return 1;
+}
+
+/* Adds each edge's length to that of the layer on which the plan has it, and gives their sum. The edge is of the stage below its parent; a buffer begins the
+ * next stage. */
+static uint64_t add_lengths(const struct net *net, const uint8_t *plan, uint64_t *lengths)
+{
+    struct fields fields;
+    struct place places[MOST_PLACES];
+    size_t below_node[MOST_NODES] = {0}, buffers = 0;
+    uint64_t wire = 0;
+    find_fields(net, &fields);
+    for (size_t node = 1; node + 1 < fields.count; node++) {
+        size_t at = fields.at[node + 1];
+        find_places(net, at, fields.at[node + 2], node + 1, places);
+        size_t stage = below_node[read_number(net, &places[0])];
+        uint64_t length = read_number(net, &places[1]);
+        below_node[node] = net->bytes[at] == 4 ? ++buffers : stage;
+        lengths[plan[stage]] += length;
+        wire += length;
+    }
+    return wire;
+}
+
+/* The totals of a block by planning its nets one by one, as the program does; and the wire of those that were planned. */
+static struct vorphiel_totals plan_each(const struct block *block, uint64_t *wire)
+{
+    static struct net net;
+    struct vorphiel_totals totals = {0};
+    const struct asked asked = {.p = 1, .q = 4, .entries = 8192, .buffer = MOST_STAGES};
+    uint8_t plan[MOST_STAGES];
+    for (size_t at = 0; at < block->len; at += 3 + net.len) {
+        net.len = field_len(block->bytes + at) - 3;
+        memcpy(net.bytes, block->bytes + at + 3, net.len);
+        struct answer counts = check(&net);
+        struct answer found = plan_net(&net, counts.results[STAGES], asked, plan);
+        totals.nets++;
+        if (found.refusal != 0) {
+            totals.refused[found.refusal]++;
+            continue;
+        }
+        totals.planned++;
+        totals.cost += found.results[COST];
+        *wire += add_lengths(&net, plan, totals.lengths);
+    }
+    return totals;
+}
+
+static uint64_t sum(const uint64_t *numbers, size_t count)
+{
+    uint64_t total = 0;
+    for (size_t i = 0; i < count; i++)
+        total += numbers[i];
+    return total;
+}
+
+/* Whether two totals are the same in every number. */
+static int same_totals(const struct vorphiel_totals *one, const struct vorphiel_totals *other)
+{
+    return one->refusal == other->refusal && one->nets == other->nets && one->planned == other->planned && one->cost == other->cost &&
+           memcmp(one->refused, other->refused, sizeof one->refused) == 0 && memcmp(one->lengths, other->lengths, sizeof one->lengths) == 0;
+}
+
+/* How many blocks were refused with 13, how many were not; and the counts of the latter, added up. */
+static uint64_t no_blocks, blocks;
+static struct vorphiel_totals told;
+
+static void add_told(const struct vorphiel_totals *totals)
+{
+    told.planned += totals->planned;
+    for (int number = 0; number <= 12; number++)
+        told.refused[number] += totals->refused[number];
+    for (int layer = 0; layer < MOST_LAYERS; layer++)
+        told.lengths[layer] += totals->lengths[layer];
+}
+
+static void try_block(void)
+{
+    static struct block block;
+    uint64_t wire = 0;
+    make_block(&block);
+    int whole = is_block(&block);
+    struct vorphiel_totals due = {.refusal = 13};
+    if (whole)
+        due = plan_each(&block, &wire);
+    struct vorphiel_totals found = report(&block);
+    must(found.refusal == due.refusal, "vorphiel_report: not the refusal that is due");
+    must(whole || same_totals(&found, &due), "a total that is not 0 after 13");
+    must(found.nets == found.planned + sum(found.refused, 13), "planned and refused nets do not add up to the nets");
+    must(sum(found.lengths, MOST_LAYERS) == wire, "the lengths over layers do not add up to the wire of the planned nets");
+    must(same_totals(&found, &due), "not the totals of the nets planned one by one");
+    blocks += whole;
+    no_blocks += !whole;
+    add_told(&found);
+}
+
 /* ---- The run ---- */
 
 static void read_net(const char *name)
@@ -1062,6 +1288,24 @@ static int print_met(int call)
     return missing;
 }
 
+/* One line for the report: how often it gave 13, and how many nets it told of with each number; how many of these it never gave. */
+static int print_told(void)
+{
+    int missing = (blocks == 0) + (no_blocks == 0) + (told.planned == 0);
+    printf("%s accepted %" PRIu64 "; refused  13: %" PRIu64 "; of its nets planned %" PRIu64 "; refused", CALL_NAMES[REPORT], blocks, no_blocks, told.planned);
+    for (unsigned number = 1; number <= 12; number++) {
+        if (number >= 7 && number <= 10)
+            continue; /* the plan and the share are the report's own */
+        missing += told.refused[number] == 0;
+        printf("  %u: %" PRIu64, number, told.refused[number]);
+    }
+    int layers = 0;
+    for (int layer = 0; layer < MOST_LAYERS; layer++)
+        layers += told.lengths[layer] > 0;
+    printf("; wire on %d layers\n", layers);
+    return missing;
+}
+
 static void print_summary(void)
 {
     printf("seed %" PRIu64 ": %" PRIu64 " calls on %" PRIu64 " nets; ", now.seed, now.number, nets);
@@ -1069,6 +1313,7 @@ static void print_summary(void)
     int missing = 0;
     for (int call = 0; call < CALLS; call++)
         missing += print_met(call);
+    missing += print_told();
     printf("%s on the chart %" PRIu64 "; off it %" PRIu64 "\n", CALL_NAMES[TABLE_ENTRIES], charted, uncharted);
     if (missing == 0)
         printf("every number of every call was met\n");
@@ -1097,9 +1342,11 @@ int main(int count, char **arguments)
         read_net(arguments[i]);
     make_all_lent();
     set_signals();
-    do
+    do {
         try_net();
-    while ((uint64_t)seconds < length);
+        if (one_in(20))
+            try_block();
+    } while ((uint64_t)seconds < length);
     print_summary();
     return 0;
 }

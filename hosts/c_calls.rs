@@ -63,4 +63,22 @@ c_calls! {
 
     /// The wall chart's number, 0 where it has none.
     TableEntries = vorphiel_table_entries(s: u64, q: u64) -> u64;
+
+    /// Reports over a block.
+    Report = vorphiel_report(block: *const u8, block_len: usize) -> Totals;
+}
+
+/// The totals over the nets of a block, `struct vorphiel_totals` in C.
+#[repr(C)]
+#[derive(Clone, Copy, Debug, Default, PartialEq, Eq)]
+pub struct Totals {
+    /// 13 for bytes that are no block, and then all else is 0; else 0.
+    pub refusal: u8,
+    pub nets: u64,
+    pub planned: u64,
+    /// By the number with which planning refused them.
+    pub refused: [u64; 13],
+    pub cost: u64,
+    /// The total edge length on each layer number.
+    pub lengths: [u64; 16],
 }

@@ -7,8 +7,10 @@
 #[path = "c_calls.rs"] // Beside this file, wherever it is taken from.
 mod c_calls;
 
-use c_calls::{Check, Judge, Plan, TableEntries};
+use c_calls::{Check, Judge, Plan, Report, TableEntries};
 use std::fmt;
+
+pub use c_calls::Totals;
 
 // Links the library; its calls are declared in `c_calls.rs`.
 #[link(name = "vorphiel", kind = "static")]
@@ -17,7 +19,7 @@ extern "C" {}
 /// The largest p and the largest q of a share p/q.
 pub const MOST_SHARE: u64 = 1_000;
 
-/// A refusal by its number, 1 to 12; shown in words.
+/// A refusal by its number, 1 to 13; shown in words.
 #[derive(Clone, Copy, Debug, PartialEq, Eq)]
 pub struct Refusal(pub u8);
 
@@ -36,6 +38,7 @@ impl fmt::Display for Refusal {
             10 => "the plan buffer is shorter than the number of stages",
             11 => "no plan of this net meets timing",
             12 => "the table has too few columns; a larger share needs fewer",
+            13 => "no block: more than 65,536 bytes, a field of another tag than 6, or cut short",
             _ => "a refusal that this host does not know",
         })
     }
@@ -118,6 +121,14 @@ pub fn plan(net: &[u8], p: u64, q: u64, table: &mut [i64], plan: &mut [u8]) -> R
     // from each other and from the net, and nobody else sees them during the call. The results are fields of a local of our own.
     let refusal = unsafe { call.make() };
     accepted(refusal, found)
+}
+
+/// The totals over the nets of a block, each planned with share 1/4, a table of 8,192 entries and a plan buffer of 64; a net that is refused is counted in
+/// `refused` by its number. The one refusal of a block is 13.
+pub fn report(block: &[u8]) -> Result<Totals, Refusal> {
+    // SAFETY: as in `check`; the answer comes by value.
+    let totals = unsafe { Report { block: block.as_ptr(), block_len: block.len() }.make() };
+    accepted(totals.refusal, totals)
 }
 
 /// The wall chart's number: the entries that always serve a net of this many stages, 1 to 64, at share 1/q, q from 1 to 10. None where the chart has none.

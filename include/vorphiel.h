@@ -1,10 +1,10 @@
 /* The Vorphiel layer planner, for hosts in C and other languages.
  *
  * Every call answers for every input: there is nothing that the caller must see to beforehand, but that each pointer is valid for the length given with it
- * and that lent buffers do not overlap. Of the calls on a net each returns a refusal number, 0 if it accepts. On a refusal every result is 0 and no lent buffer
- * is changed, with one exception: after 12 the table of vorphiel_plan is all zero.
- * Beside what it is lent a call takes stack only, vorphiel_plan the most: 125 kB as measured on x86-64.
- * docs/CUSTOMERS.md says all this at more length, with a worked example. The numbers are those of the scope document:
+ * and that lent buffers do not overlap. Of the calls on a net each returns a refusal number, 0 if it accepts; the answer of vorphiel_report holds one. On a
+ * refusal every result is 0 and no lent buffer is changed, with one exception: after 12 the table of vorphiel_plan is all zero.
+ * Beside what it is lent a call takes stack only: vorphiel_plan 125 kB as measured on x86-64, vorphiel_report 193 kB, for it has a table of 64 kB of its own.
+ * docs/CUSTOMERS.md says all this at more length, with worked examples. The numbers are those of the scope document, 13 that of the change requests:
  *   1  fewer than three bytes are left where a field is due, or the payload is not all there
  *   2  a tag that is not allowed there, or a length that its kind does not have
  *   3  a number outside its range
@@ -17,6 +17,7 @@
  *  10  the plan buffer is shorter than the number of stages
  *  11  no plan of the net meets timing
  *  12  the table has too few columns
+ *  13  bytes that are no block: more than 65,536, another tag than 6, or cut short
  */
 #ifndef VORPHIEL_H
 #define VORPHIEL_H
@@ -64,6 +65,29 @@ uint8_t vorphiel_plan(const uint8_t *net, size_t net_len, uint64_t p, uint64_t q
  * for every other s or q: the chart has no number there. A net of s stages that is planned with share 1/q and a table of the chart's length or longer is never
  * refused with 12. */
 uint64_t vorphiel_table_entries(uint64_t s, uint64_t q);
+
+/* The totals over the nets of a block. With refusal 13 all else is 0. */
+struct vorphiel_totals {
+    uint8_t refusal;      /* 13 for bytes that are no block, else 0 */
+    uint64_t nets;        /* the nets of the block: those planned and those refused */
+    uint64_t planned;     /* the nets that were planned */
+    uint64_t refused[13]; /* refused[r]: the nets that planning refused with r, which is 1 to 6, 11 or 12; the other entries are 0 */
+    uint64_t cost;        /* the cost of the plans found, together */
+    uint64_t lengths[16]; /* lengths[l]: the total edge length on layer number l over the planned nets */
+};
+
+/* Reports over a block: plans each of its nets and gives the totals; the plans themselves are not kept. A block is a run of fields of tag 6 (the tag, two bytes
+ * of payload length, payload), each with the bytes of a net as payload, 65,536 bytes in all at most. No bytes at all are a block of no nets.
+ *
+ * Refused with 13, before any net is planned: the block is longer, has another tag or is cut short. That nets are refused is no refusal of the block: they are
+ * counted in refused by their numbers and add nothing to cost and lengths. A payload of no bytes is a net refused with 1.
+ *
+ * Each net is planned as the program plan_net does: as by vorphiel_plan with share 1/4, a table of 8,192 entries and a plan buffer of 64. So 12 is given to
+ * some nets that a host can plan with a longer table.
+ *
+ * planned and the counts in refused add up to nets; lengths add up to the wire of the planned nets, all their edge lengths; 4 times cost is at most 5 times what
+ * any plans that meet timing would cost for the planned nets together. No total overflows, whatever the block holds. */
+struct vorphiel_totals vorphiel_report(const uint8_t *block, size_t block_len);
 
 #ifdef __cplusplus
 }

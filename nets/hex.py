@@ -1,14 +1,16 @@
 #!/usr/bin/env python3
-"""Nets as hexadecimal text with comments, and back.
+"""Nets and blocks of nets as hexadecimal text with comments, and back.
 
-    nets/hex.py bytes FILE.hex     the bytes that the text says, on standard output
-    nets/hex.py text FILE.net      a net's bytes as text, each number named and said in decimal
+    nets/hex.py bytes FILE.hex       the bytes that the text says, on standard output
+    nets/hex.py text FILE            the bytes of a net or a block as text, each number named and said in decimal
+    nets/hex.py block FILE.hex ...   the bytes of the block of these nets: for each a field of tag 6 with its bytes as payload
 
 FILE may be - for standard input. In a text, # begins a comment that ends with its line; the rest is hexadecimal digits, with white space wherever one
 likes. A line holds whole bytes, so that a digit too many or too few is found on the line where it is.
 
-Any bytes can be turned into text, also those that are no net: what does not follow the format is given as plain digits. The text always turns back into
-the same bytes. Exit status 1: the file cannot be read, or is no such text; 2: wrong use.
+Any bytes can be turned into text, also those that are no net and no block: what does not follow the format is given as plain digits. The text always turns
+back into the same bytes. Bytes that begin with tag 6 are taken for a block, as no net begins so. What a net holds does not matter to a block, only its length.
+Exit status 1: a file cannot be read or is no such text, a net is longer than 65,535 bytes, a block longer than 65,536; 2: wrong use.
 """
 import re
 import sys
@@ -21,6 +23,11 @@ NODES = {
     4: ("buffer", [("input capacitance", 4, False), ("gate resistance", 4, False), ("intrinsic delay", 4, False)]),
     5: ("sink", [("input capacitance", 4, False), ("required time", 8, True)]),
 }
+
+# A block: the tag of a net's field, the longest payload that a field's two bytes of length can say, and the longest block.
+NET_TAG = 6
+MOST_PAYLOAD = 65_535
+MOST_BLOCK = 65_536
 
 
 def to_bytes(text, name):
@@ -50,6 +57,15 @@ def cut(data, widths):
 def line(pieces, comment):
     """One line of text: some pieces of bytes, and what they are."""
     return f"{' '.join(piece.hex().upper() for piece in pieces):<35} # {comment}\n"
+
+
+def head(tag, length):
+    """The pieces of a field's head."""
+    return [bytes([tag]), length.to_bytes(2, "big")]
+
+
+def head_text(tag, length):
+    return line(head(tag, length), f"tag {tag}, {length} bytes follow")
 
 
 def parts(data, described):
@@ -86,37 +102,97 @@ def field_text(tag, payload, place, layers):
         body = parts(payload, EDGE) + costs_text(payload[4:], layers) + parts(payload[4 + 4 * layers:], NODES[tag][1])
     else:
         return None
-    return f"\n# {name}\n" + line([bytes([tag]), length.to_bytes(2, "big")], f"tag {tag}, {length} bytes follow") + body
+    return f"\n# {name}\n" + head_text(tag, length) + body
 
 
-def to_text(net):
-    """Field by field as long as the bytes follow the format; then the rest as it is, 32 bytes a line."""
-    text, at, place, layers = "", 0, 0, 0
-    while at + 3 <= len(net):
-        end = at + 3 + number(net[at + 1:at + 3])
-        field = field_text(net[at], net[at + 3:end], place, layers) if end <= len(net) else None
+def fields(data):
+    """The fields from the front that are whole: their places, tags and payloads."""
+    at = 0
+    while at + 3 <= len(data) and at + 3 + number(data[at + 1:at + 3]) <= len(data):
+        end = at + 3 + number(data[at + 1:at + 3])
+        yield at, data[at], data[at + 3:end]
+        at = end
+
+
+def rest_text(data, at, what, first):
+    """What does not follow the format, from `at` on, 32 bytes a line. The data begin with the file's byte `first`."""
+    if at == len(data):
+        return ""
+    rows = (data[start:start + 32].hex().upper() + "\n" for start in range(at, len(data), 32))
+    return f"\n# from here, byte {first + at}, not the format of a {what}\n" + "".join(rows)
+
+
+def net_text(net, first):
+    """Field by field as long as the bytes follow the format; then the rest as it is. The net begins with the file's byte `first`."""
+    text, done, layers = "", 0, 0
+    for place, (at, tag, payload) in enumerate(fields(net)):
+        field = field_text(tag, payload, place, layers)
         if field is None:
             break
         if place == 0:
-            layers = (end - at - 3) // 4
-        text, at, place = text + field, end, place + 1
-    if at < len(net):
-        text += f"\n# from here, byte {at}, not the format of a net\n"
-    return text + "".join(net[start:start + 32].hex().upper() + "\n" for start in range(at, len(net), 32))
+            layers = len(payload) // 4
+        text, done = text + field, at + 3 + len(payload)
+    return text + rest_text(net, done, "net", first)
+
+
+def block_text(block):
+    """Net by net as long as the bytes follow the format; then the rest as it is."""
+    text, done = "", 0
+    for count, (at, tag, payload) in enumerate(fields(block), 1):
+        if tag != NET_TAG:
+            break
+        text += f"\n# net {count} of the block\n" + head_text(tag, len(payload)) + net_text(payload, at + 3)
+        done = at + 3 + len(payload)
+    return text + rest_text(block, done, "block", 0)
+
+
+def to_text(data):
+    """The text of any bytes: as a block if they begin with a block's tag, else as a net."""
+    return block_text(data) if data[:1] == bytes([NET_TAG]) else net_text(data, 0)
+
+
+def to_block(nets):
+    """The block of some nets, each given with its name; one that is too long ends the program."""
+    block = bytearray()
+    for name, net in nets:
+        if len(net) > MOST_PAYLOAD:
+            sys.exit(f"{name}: a net of {len(net):,} bytes; a block's field holds {MOST_PAYLOAD:,} at most")
+        block += b"".join(head(NET_TAG, len(net))) + net
+    if len(block) > MOST_BLOCK:
+        sys.exit(f"a block of {len(block):,} bytes; {MOST_BLOCK:,} are the most")
+    return bytes(block)
+
+
+def contents(name):
+    """The bytes of a file; one that cannot be read ends the program."""
+    try:
+        with open(0 if name == "-" else name, "rb") as file:
+            return file.read()
+    except OSError as error:
+        sys.exit(f"{name}: {error.strerror}")
+
+
+def said(name):
+    """The bytes that the text in a file says."""
+    return to_bytes(contents(name).decode(errors="replace"), name)
 
 
 def main():
-    if len(sys.argv) != 3 or sys.argv[1] not in ("bytes", "text"):
-        print("usage: nets/hex.py bytes FILE.hex | nets/hex.py text FILE.net", file=sys.stderr)
+    use, names = sys.argv[1] if len(sys.argv) > 1 else "", sys.argv[2:]
+    if use == "bytes" and len(names) == 1:
+        made = said(names[0])
+    elif use == "text" and len(names) == 1:
+        made = to_text(contents(names[0])).encode()
+    elif use == "block" and names:
+        made = to_block([(name, said(name)) for name in names])
+    else:
+        print("usage: nets/hex.py bytes FILE.hex | nets/hex.py text FILE | nets/hex.py block FILE.hex ...", file=sys.stderr)
         return 2
-    name = sys.argv[2]
     try:
-        with open(0 if name == "-" else name, "rb") as file:
-            given = file.read()
-        sys.stdout.buffer.write(to_bytes(given.decode(errors="replace"), name) if sys.argv[1] == "bytes" else to_text(given).encode())
+        sys.stdout.buffer.write(made)
         sys.stdout.buffer.flush()
     except OSError as error:
-        sys.exit(f"{name}: {error.strerror}")
+        sys.exit(f"standard output: {error.strerror}")
     return 0
 
 

@@ -1,9 +1,12 @@
-//! The library's speed beside the peer's: the same method, written in plain Rust and compiled with optimization.
+//! The library's speed beside the peer's: the same method, written in plain Rust and compiled with optimization. And the report over a block of small nets
+//! beside planning them one by one.
 //!
 //!     vorphiel-bench          prints the tables of docs/SPEED.md
-//!     vorphiel-bench --same   only whether both give the same answers
-//!     vorphiel-bench --once   each measured call once, for callgrind
+//!     vorphiel-bench --same   only whether both give the same answers, and whether the report keeps to its bound
+//!     vorphiel-bench --blocks   only the table of the blocks
+//!     vorphiel-bench --once   each measured call once, for callgrind; --once-blocks BYTES does so for blocks of at most so many bytes
 
+mod blocks;
 mod families;
 #[path = "../../hosts/vorphiel.rs"]
 mod library;
@@ -13,7 +16,8 @@ mod report;
 mod stack;
 
 use families::{Case, Shape, Size, Times, LIMITS};
-use measure::{Call, Job};
+use measure::{Call, Job, Pair};
+use report::Measured;
 
 /// The shares of the table.
 const SHARES: [(u64, u64); 4] = [(1, 1), (1, 4), (1, 10), (1, 100)];
@@ -54,32 +58,55 @@ fn profiled(cases: &[Case], calls: &[Call]) -> Vec<(String, usize)> {
     ]
 }
 
+/// What was counted, with the times of the same pairs.
+fn beside_times(counted: Option<&measure::Counted>, pairs: &mut [impl Pair]) -> Vec<Measured> {
+    let timed = pairs.iter_mut().map(|pair| measure::times(pair));
+    timed.enumerate().map(|(place, times)| (counted.map(|counted| counted.0[place]), times)).collect()
+}
+
+/// The table of the blocks.
+fn measure_blocks() {
+    let mut blocks = blocks::of_small_nets(blocks::LONGEST);
+    let counted = blocks::counted(blocks::LONGEST, blocks.len());
+    let measured = beside_times(counted.as_ref(), &mut blocks);
+    report::blocks(&blocks, &measured, stack::bytes(&mut blocks::deepest()));
+}
+
 fn main() {
+    let arguments: Vec<String> = std::env::args().skip(1).collect();
+    match &arguments.iter().map(String::as_str).collect::<Vec<_>>()[..] {
+        ["--once-blocks", bytes] => measure::run_once(&mut blocks::of_small_nets(bytes.parse().expect("a number"))),
+        ["--blocks"] => measure_blocks(),
+        asked => measure_calls(asked),
+    }
+}
+
+/// What is asked for of the calls on a net, and then of the blocks.
+fn measure_calls(asked: &[&str]) {
     let (cases, growing, calls) = (families::at_the_limits(), growing(), calls());
     let at_limits = cases.iter().flat_map(|case| calls.iter().map(move |&call| Job::new(case, call)));
     let mut jobs: Vec<Job> = at_limits.collect();
     jobs.extend(growing.iter().map(|(_, _, case, call)| Job::new(case, *call)));
-    let asked = std::env::args().nth(1);
-    if asked.as_deref() == Some("--once") {
+    if asked == ["--once"] {
         measure::run_once(&mut jobs);
         return;
     }
     for job in &mut jobs {
         assert_eq!(job.answer(&measure::LIBRARY), job.answer(&measure::PEER), "the peer answers otherwise");
     }
-    if asked.as_deref() == Some("--same") {
+    if asked == ["--same"] {
         println!("{} answers the same", jobs.len());
+        blocks::keep_the_bound();
         return;
     }
-    let stacks: Vec<_> = jobs.iter_mut().take(cases.len() * calls.len()).map(stack::bytes).collect();
-    let counted = measure::instructions(jobs.len(), &profiled(&cases, &calls));
-    let timed: Vec<_> = jobs.iter_mut().map(Job::times).collect();
-    let measured: Vec<_> =
-        (0..jobs.len()).map(|job| (counted.as_ref().map(|counted| counted.0[job]), timed[job])).collect();
+    let stacks: Vec<_> = jobs.iter_mut().take(cases.len() * calls.len()).map(|job| stack::bytes(job)).collect();
+    let counted = measure::instructions(&["--once"], jobs.len(), &profiled(&cases, &calls));
+    let measured = beside_times(counted.as_ref(), &mut jobs);
     let (limits, grown) = measured.split_at(cases.len() * calls.len());
     report::ratios(&cases, &calls, limits);
     report::stacks(&calls, &stacks);
     report::profiles(counted.map_or(vec![], |counted| counted.1));
     report::growth(&growing, grown);
     report::excess(&cases, &SHARES);
+    measure_blocks();
 }

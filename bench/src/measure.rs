@@ -1,4 +1,5 @@
-//! One call of one side, measured: its instructions by callgrind, its time by the clock.
+//! The same done in two ways, measured: the instructions by callgrind, the time by the clock. And the calls on a net in two ways:
+//! by the library and by the peer.
 
 use crate::families::Case;
 use crate::library::{self, Counts, Judged, Planned, Refusal};
@@ -7,6 +8,12 @@ use std::collections::HashMap;
 use std::path::Path;
 use std::process::Command;
 use std::time::{Duration, Instant};
+
+/// What is done in two ways that are held against each other.
+pub trait Pair {
+    /// Does it in the first way (0) or in the second (1). Only this is counted and timed.
+    fn run(&mut self, way: usize);
+}
 
 /// The three calls of an implementation.
 pub struct Side {
@@ -56,8 +63,7 @@ impl<'a> Job<'a> {
         job
     }
 
-    /// The call. Only this is counted and timed.
-    fn run(&mut self, side: &Side) -> Answer {
+    fn call(&mut self, side: &Side) -> Answer {
         match self.call {
             Call::Check => Answer::Checked((side.check)(self.net)),
             Call::Judge => Answer::Judged((side.judge)(self.net, &self.plan)),
@@ -69,60 +75,66 @@ impl<'a> Job<'a> {
 
     /// What the call answers.
     pub fn answer(&mut self, side: &Side) -> Answer {
-        match self.run(side) {
+        match self.call(side) {
             Answer::Planned(answer, _) => Answer::Planned(answer, self.plan.clone()),
             other => other,
         }
     }
+}
 
-    /// The shortest time of several calls of each side, made in turn.
-    pub fn times(&mut self) -> [Duration; 2] {
-        let mut least = [Duration::MAX; 2];
-        let begin = Instant::now();
-        while begin.elapsed() < Duration::from_millis(60) {
-            for (side, least) in [LIBRARY, PEER].iter().zip(&mut least) {
-                let start = Instant::now();
-                std::hint::black_box(self.run(side));
-                *least = start.elapsed().min(*least);
-            }
-        }
-        least
+impl Pair for Job<'_> {
+    fn run(&mut self, way: usize) {
+        std::hint::black_box(self.call(&[LIBRARY, PEER][way]));
     }
+}
+
+/// The shortest time of several runs in each way, made in turn.
+pub fn times(pair: &mut dyn Pair) -> [Duration; 2] {
+    let mut least = [Duration::MAX; 2];
+    let begin = Instant::now();
+    while begin.elapsed() < Duration::from_millis(60) {
+        for (way, least) in least.iter_mut().enumerate() {
+            let start = Instant::now();
+            pair.run(way);
+            *least = start.elapsed().min(*least);
+        }
+    }
+    least
 }
 
 /// Callgrind counts from the beginning of this function to its end.
 #[no_mangle]
 #[inline(never)]
-extern "C" fn measured(job: &mut Job, side: &Side) {
-    std::hint::black_box(job.run(side));
+fn measured(pair: &mut dyn Pair, way: usize) {
+    pair.run(way);
 }
 
-/// Each job once on each side, for callgrind.
-pub fn run_once(jobs: &mut [Job]) {
-    for job in jobs {
-        measured(job, &LIBRARY);
-        measured(job, &PEER);
+/// Each pair once in each way, for callgrind.
+pub fn run_once(pairs: &mut [impl Pair]) {
+    for pair in pairs {
+        measured(pair, 0);
+        measured(pair, 1);
     }
 }
 
 /// Where the instructions of a call go: functions with those executed in their own code, the most first.
 pub type Profile = Vec<(String, u64)>;
 
-/// The instructions of each job on each side, and the profiles of the jobs asked for.
+/// The instructions of each pair in each way, and the profiles of the pairs asked for.
 pub type Counted = (Vec<[u64; 2]>, Vec<(String, [Profile; 2])>);
 
-/// What callgrind counts: this program is run again under it with `--once`, which calls `run_once` with the same jobs.
-/// None where there is no valgrind.
-pub fn instructions(jobs: usize, shown: &[(String, usize)]) -> Option<Counted> {
+/// What callgrind counts: this program is run again under it with arguments that let it call `run_once` with the same pairs, so
+/// many of them. None where there is no valgrind.
+pub fn instructions(arguments: &[&str], pairs: usize, shown: &[(String, usize)]) -> Option<Counted> {
     let folder = std::env::temp_dir().join(format!("vorphiel-bench-{}", std::process::id()));
     std::fs::create_dir_all(&folder).expect("a folder for callgrind");
     let dump = |number: usize| {
         std::fs::read_to_string(folder.join(format!("callgrind.{number}"))).expect("a dump for each call")
     };
-    let counted = called(&folder).map(|()| {
-        let totals = (0..jobs).map(|job| [2 * job + 1, 2 * job + 2].map(|number| total(&dump(number)))).collect();
-        let profile = |(name, job): &(String, usize)| {
-            (name.clone(), [2 * job + 1, 2 * job + 2].map(|number| profile(&dump(number))))
+    let counted = called(&folder, arguments).map(|()| {
+        let totals = (0..pairs).map(|pair| [2 * pair + 1, 2 * pair + 2].map(|number| total(&dump(number)))).collect();
+        let profile = |(name, pair): &(String, usize)| {
+            (name.clone(), [2 * pair + 1, 2 * pair + 2].map(|number| profile(&dump(number))))
         };
         (totals, shown.iter().map(profile).collect())
     });
@@ -130,13 +142,13 @@ pub fn instructions(jobs: usize, shown: &[(String, usize)]) -> Option<Counted> {
     counted
 }
 
-fn called(folder: &Path) -> Option<()> {
+fn called(folder: &Path, arguments: &[&str]) -> Option<()> {
     let own = std::env::current_exe().expect("the name of this program");
     let status = Command::new("valgrind")
         .args(["--quiet", "--tool=callgrind", "--zero-before=measured", "--dump-after=measured"])
         .arg(format!("--callgrind-out-file={}", folder.join("callgrind").display()))
         .arg(own)
-        .arg("--once")
+        .args(arguments)
         .status()
         .ok()?;
     assert!(status.success(), "callgrind failed");

@@ -1,11 +1,12 @@
 //! The tables that are printed, in the form in which docs/SPEED.md shows them.
 
+use crate::blocks::Block;
 use crate::families::Case;
 use crate::library::{self, Planned, Refusal};
 use crate::measure::{Call, Profile};
 use std::time::Duration;
 
-/// Instructions of library and peer, if they were counted, and their times.
+/// The instructions in each way, if they were counted, and the times; the first way is the library's.
 pub type Measured = (Option<[u64; 2]>, [Duration; 2]);
 
 fn name(call: Call) -> String {
@@ -20,7 +21,7 @@ fn micro(time: Duration) -> f64 {
     time.as_secs_f64() * 1e6
 }
 
-/// Library over peer: by instructions, by time.
+/// The first way over the second: by instructions, by time.
 fn ratio((counted, timed): &Measured) -> (Option<f64>, f64) {
     let instructions = counted.map(|[library, peer]| library as f64 / peer as f64);
     (instructions, timed[0].as_secs_f64() / timed[1].as_secs_f64())
@@ -83,6 +84,23 @@ pub fn stacks(calls: &[Call], bytes: &[usize]) {
         println!("| {} | {most} |", name(call));
     }
     println!();
+}
+
+/// The report over each block beside planning its nets one by one, and the stack that it takes.
+pub fn blocks(rows: &[Block], measured: &[Measured], stack: usize) {
+    println!("| block of | nets | instructions, report | one by one | factor | µs, report | one by one | factor |");
+    println!("|---|---:|---:|---:|---:|---:|---:|---:|");
+    for (block, row) in rows.iter().zip(measured) {
+        let (by_instructions, by_time) = ratio(row);
+        let [report, apart] = [0, 1].map(|way| shown(row.0.map(|counted| counted[way])));
+        let [report_time, apart_time] = row.1.map(micro);
+        let (name, nets, factor) = (block.name, block.nets(), two_places(by_instructions));
+        println!(
+            "| {name} | {nets} | {report} | {apart} | {factor} | {report_time:.1} | {apart_time:.1} | {by_time:.2} |"
+        );
+    }
+    println!();
+    println!("The report takes {stack} bytes of stack, at most.");
 }
 
 /// Where the instructions of some calls go: every function that executes at least a hundredth of them.

@@ -1,7 +1,7 @@
 //! The stack that a call takes: it is made on a thread whose stack is filled with a mark beforehand; from the first byte
 //! that is no longer the mark on, the stack was used.
 
-use crate::measure::{Job, LIBRARY};
+use crate::measure::Pair;
 use std::ffi::{c_int, c_void};
 
 const BYTES: usize = 1 << 20;
@@ -23,21 +23,21 @@ extern "C" {
     fn pthread_join(thread: usize, result: *mut *mut c_void) -> c_int;
 }
 
-extern "C" fn run(job: *mut c_void) -> *mut c_void {
-    let job = unsafe { &mut *(job as *mut Option<&mut Job>) };
-    if let Some(job) = job {
-        std::hint::black_box(job.answer(&LIBRARY));
+extern "C" fn run(pair: *mut c_void) -> *mut c_void {
+    let pair = unsafe { &mut *(pair as *mut Option<&mut dyn Pair>) };
+    if let Some(pair) = pair {
+        pair.run(0);
     }
     std::ptr::null_mut()
 }
 
-fn used(mut job: Option<&mut Job>) -> usize {
+fn used(mut pair: Option<&mut dyn Pair>) -> usize {
     let mut memory = vec![MARK; BYTES + 4096];
     let start = memory.as_mut_ptr().align_offset(4096);
     let stack = &mut memory[start..start + BYTES];
     unsafe {
         let (mut attributes, mut thread) = (Attributes([0; 128]), 0);
-        let with = &mut job as *mut Option<&mut Job> as *mut c_void;
+        let with = &mut pair as *mut Option<&mut dyn Pair> as *mut c_void;
         assert_eq!(pthread_attr_init(&mut attributes), 0);
         assert_eq!(pthread_attr_setstack(&mut attributes, stack.as_mut_ptr() as *mut c_void, BYTES), 0);
         assert_eq!(pthread_create(&mut thread, &attributes, run, with), 0);
@@ -46,7 +46,7 @@ fn used(mut job: Option<&mut Job>) -> usize {
     BYTES - stack.iter().take_while(|&&byte| byte == MARK).count()
 }
 
-/// The bytes of stack that the library takes for a job, above what a thread takes that does nothing.
-pub fn bytes(job: &mut Job) -> usize {
-    used(Some(job)) - used(None)
+/// The bytes of stack that the first way takes, that of the library, above what a thread takes that does nothing.
+pub fn bytes(pair: &mut dyn Pair) -> usize {
+    used(Some(pair)) - used(None)
 }

@@ -1,5 +1,6 @@
 //! One call, compared: what an implementation answers and leaves in the lent buffers, against what 01 says.
 
+use crate::block::Block;
 use crate::by_front::Fronts;
 use crate::host::{Host, Interface};
 use crate::nets::Random;
@@ -140,6 +141,13 @@ pub struct Left {
 }
 
 impl Asked {
+    /// As 01's program plans a net, with nothing in table and buffer.
+    pub fn by_program() -> Asked {
+        let (p, q) = plain::PROGRAM_SHARE;
+        let (table, buffer) = (vec![0; plain::PROGRAM_TABLE], vec![0; plain::PROGRAM_BUFFER]);
+        Asked { p, q, table, buffer, garbage: None }
+    }
+
     fn words(&self) -> String {
         let Asked { p, q, table, buffer, .. } = self;
         format!("share {p}/{q}, table {}, buffer {}", table.len(), buffer.len())
@@ -295,6 +303,15 @@ impl Comparison {
         let (expected, found) = (plain::table_entries(s, q), self.host.table_entries(s, q));
         let faults = if found == expected { vec![] } else { vec![String::from("the answer")] };
         self.settle(call, &[], faults, || format!("expected: {expected}\nfound:    {found}"))
+    }
+
+    /// The report over a block, against 02: the whole struct, and its laws.
+    pub fn report(&mut self, block: &Block) -> Outcome {
+        let call = || format!("report, {}", block.name);
+        self.say(call, &block.bytes);
+        let (expected, found) = (&block.totals, self.host.report(&block.bytes));
+        let faults = block.faults(&found);
+        self.settle(call, &block.bytes, faults, || format!("expected: {expected:?}\nfound:    {found:?}"))
     }
 
     /// The parameters of a planning call, with garbage in table and buffer.

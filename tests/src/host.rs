@@ -4,7 +4,7 @@
 //! Every lent buffer is a copy with a margin of known values on both sides, and every result begins as rubbish. A
 //! write outside a buffer, or into one that is only to be read, is reported by `complaint`.
 
-use crate::c_calls::{Check, Judge, Plan, TableEntries};
+use crate::c_calls::{Check, Judge, Plan, Report, TableEntries, Totals};
 use crate::plain::{Checked, Judged, Planned};
 
 /// The calls of an implementation, each a function of the C function's parameters.
@@ -14,12 +14,19 @@ pub struct Interface {
     pub judge: unsafe fn(Judge) -> u8,
     pub plan: unsafe fn(Plan) -> u8,
     pub table_entries: unsafe fn(TableEntries) -> u64,
+    pub report: unsafe fn(Report) -> Totals,
 }
 
 /// The linked library's.
 #[cfg(feature = "library")]
 pub fn linked() -> Option<Interface> {
-    Some(Interface { check: Check::make, judge: Judge::make, plan: Plan::make, table_entries: TableEntries::make })
+    Some(Interface {
+        check: Check::make,
+        judge: Judge::make,
+        plan: Plan::make,
+        table_entries: TableEntries::make,
+        report: Report::make,
+    })
 }
 
 /// This build has none.
@@ -165,6 +172,15 @@ impl Host {
     pub fn table_entries(&mut self, s: u64, q: u64) -> u64 {
         // Safe: numbers only.
         unsafe { (self.interface.table_entries)(TableEntries { s, q }) }
+    }
+
+    pub fn report(&mut self, block: &[u8]) -> Totals {
+        let mut lent = Lent::new("block", block, NET_EDGE);
+        let call = Report { block: lent.start(), block_len: block.len() };
+        // Safe: as in `check`.
+        let totals = unsafe { (self.interface.report)(call) };
+        self.complaint = lent.written(block);
+        totals
     }
 
     /// The results of a call.

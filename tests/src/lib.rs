@@ -1,5 +1,6 @@
 //! The plain search written apart from document 01, the nets it is tried on, and the comparison of an implementation with it.
 
+pub mod block;
 pub mod by_front;
 #[path = "../../hosts/c_calls.rs"]
 pub mod c_calls;

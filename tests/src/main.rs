@@ -5,10 +5,14 @@
 //!     vorphiel-tests --self [SEED [COUNT]]
 //!                                     no library: the plain search, the search by fronts and a third one, compared
 //!     vorphiel-tests --mutants        no library: wrong planners in its place; says which call exposed each
+//!     vorphiel-tests --blocks DIR COUNT
+//!                                     no library: writes blocks for the program block_report, each with its text
 //!     --trace before these            says each call on standard error before it is made: if the library breaks off or
 //!                                     does not come back, the last one is to blame
 
+use std::collections::BTreeSet;
 use std::process::ExitCode;
+use std::{fs, io};
 use vorphiel_tests::compare::{hex, Comparison, Failure};
 use vorphiel_tests::host::{linked, Interface};
 use vorphiel_tests::plain::{self, Search};
@@ -47,8 +51,12 @@ fn options(mut arguments: Vec<String>) -> Option<Options> {
 }
 
 fn main() -> ExitCode {
-    let Some(options) = options(std::env::args().skip(1).collect()) else {
-        eprintln!("usage: vorphiel-tests [--trace] [--mutants | --self] [SEED [COUNT]]");
+    let arguments: Vec<String> = std::env::args().skip(1).collect();
+    if let Some((folder, count)) = blocks_asked(&arguments) {
+        return written(write_blocks(folder, count));
+    }
+    let Some(options) = options(arguments) else {
+        eprintln!("usage: vorphiel-tests [--trace] [--mutants | --self] [SEED [COUNT]] | --blocks DIR COUNT");
         return ExitCode::from(2);
     };
     let well = if options.mutants {
@@ -61,6 +69,54 @@ fn main() -> ExitCode {
     if well {
         ExitCode::SUCCESS
     } else {
+        ExitCode::FAILURE
+    }
+}
+
+/// --blocks DIR COUNT.
+fn blocks_asked(arguments: &[String]) -> Option<(&str, usize)> {
+    match arguments {
+        [flag, folder, count] if flag == "--blocks" => Some((folder, count.parse().ok()?)),
+        _ => None,
+    }
+}
+
+/// Writes blocks, block-0.bin and so on, and beside each the report's text, block-0.text. Which kinds of line the texts
+/// have, each by its words and number, without what was counted.
+fn write_blocks(folder: &str, count: usize) -> io::Result<BTreeSet<String>> {
+    let mut met = BTreeSet::new();
+    for (number, block) in runs::blocks::for_program(SEED, count).iter().enumerate() {
+        let text = block.text();
+        fs::write(format!("{folder}/block-{number}.bin"), &block.bytes)?;
+        fs::write(format!("{folder}/block-{number}.text"), &text)?;
+        met.extend(text.lines().map(|line| if line == "refused 13" { line } else { counted(line) }).map(String::from));
+    }
+    Ok(met)
+}
+
+/// A line without its last number.
+fn counted(line: &str) -> &str {
+    line.rsplit_once(' ').expect("a word and a number").0
+}
+
+/// Says how many kinds of line were met: all of them must be.
+fn written(met: io::Result<BTreeSet<String>>) -> ExitCode {
+    let met = match met {
+        Ok(met) => met,
+        Err(error) => {
+            eprintln!("vorphiel-tests: {error}");
+            return ExitCode::from(2);
+        }
+    };
+    let numbers = [1, 2, 3, 4, 5, 6, 11, 12, 13].map(|number| format!("refused {number}"));
+    let layers = (0..16).map(|layer| format!("length {layer}"));
+    let due: BTreeSet<String> =
+        ["nets", "planned", "cost"].map(String::from).into_iter().chain(numbers).chain(layers).collect();
+    println!("{} kinds of line met of {} in the texts of blocks", met.len(), due.len());
+    if met == due {
+        ExitCode::SUCCESS
+    } else {
+        println!("not met: {:?}; not due: {:?}", &due - &met, &met - &due);
         ExitCode::FAILURE
     }
 }

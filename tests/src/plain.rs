@@ -3,6 +3,9 @@
 //! It shares no code and no definition with the planner. The words in quotes above a function are the
 //! sentence of 01 that it stands for. All numbers are 128 bits wide, so nothing here can overflow.
 
+use crate::c_calls::Totals;
+use std::array;
+
 // ------------------------------------------------------------------------------------------------
 // 01, The tree and what is left to decide
 // ------------------------------------------------------------------------------------------------
@@ -643,4 +646,80 @@ pub fn chart_text() -> String {
         }
     }
     text
+}
+
+// ------------------------------------------------------------------------------------------------
+// 02, wish 2: a report over a whole block
+// ------------------------------------------------------------------------------------------------
+
+/// "Files are at most 65,536 bytes."
+pub const MOST_BLOCK: usize = 65_536;
+
+/// "A block file is a run of fields of tag 6".
+const TAG_NET: u8 = 6;
+
+/// 01, Program: "Share 1/4, a table of 8,192 entries, a plan buffer of 64."
+pub const PROGRAM_SHARE: (u64, u64) = (1, 4);
+pub const PROGRAM_TABLE: usize = 8_192;
+pub const PROGRAM_BUFFER: usize = 64;
+
+/// "each with a net as payload; an empty file is a block of no nets." "13 for a block that is longer, has another tag
+/// or is cut short, before any net is planned".
+pub fn read_block(block: &[u8]) -> Result<Vec<&[u8]>, u8> {
+    if block.len() > MOST_BLOCK {
+        return Err(13);
+    }
+    let (mut at, mut nets) = (0, vec![]);
+    while at < block.len() {
+        let field = take_field(block, &mut at, |tag, _| tag == TAG_NET).map_err(|_| 13)?;
+        nets.push(field.payload);
+    }
+    Ok(nets)
+}
+
+/// What planning answered for a net of a block: the net and its plan, or the refusal.
+pub type PlannedNet = Result<(Net, Vec<u8>), u8>;
+
+/// What the report tells of a block, from what planning answered for each net: `nets`, `planned`, `refused` by number,
+/// `cost`, and `length` by layer number, whatever layers the nets have.
+pub fn totals(nets: &[PlannedNet]) -> Totals {
+    let planned = || nets.iter().flatten();
+    let with_number = |number: usize| nets.iter().filter(|net| matches!(net, Err(r) if *r as usize == number)).count();
+    let on_layer = |layer: usize| narrow(planned().map(|(net, plan)| length_on(net, plan, layer)).sum());
+    Totals {
+        refusal: 0,
+        nets: nets.len() as u64,
+        planned: planned().count() as u64,
+        refused: array::from_fn(|number| with_number(number) as u64),
+        cost: narrow(planned().map(|(net, plan)| cost(net, plan)).sum()),
+        lengths: array::from_fn(on_layer),
+    }
+}
+
+/// "layer and total edge length on it": of the edges that a plan puts there.
+fn length_on(net: &Net, plan: &[u8], layer: usize) -> i128 {
+    let edges = (1..net.nodes.len()).filter(|&node| plan[stage_of_edge(net, node)] as usize == layer);
+    edges.map(|node| net.nodes[node].length).sum()
+}
+
+/// "the wire of the planned nets", to which "the lengths over layers must add up".
+pub fn planned_wire(nets: &[PlannedNet]) -> i128 {
+    nets.iter().flatten().map(|(net, _)| net.nodes.iter().map(|node| node.length).sum::<i128>()).sum()
+}
+
+/// "prints `nets`, `planned`, then `refused` with number and count for each number met, rising, then `cost`, then
+/// `length` with layer and total edge length on it, for layers where it is above 0, rising", "a line each". For a
+/// block that is none "it prints `refused 13` only".
+pub fn report_text(totals: &Totals) -> String {
+    if totals.refusal != 0 {
+        return format!("refused {}\n", totals.refusal);
+    }
+    let Totals { nets, planned, cost, .. } = totals;
+    let (refused, lengths) = (lines_above_0("refused", &totals.refused), lines_above_0("length", &totals.lengths));
+    format!("nets {nets}\nplanned {planned}\n{refused}cost {cost}\n{lengths}")
+}
+
+fn lines_above_0(word: &str, counts: &[u64]) -> String {
+    let above = counts.iter().enumerate().filter(|(_, &count)| count > 0);
+    above.map(|(number, count)| format!("{word} {number} {count}\n")).collect()
 }

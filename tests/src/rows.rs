@@ -1,7 +1,10 @@
-//! The rows of 01, "Nets to try", with the numbers that stand there. The plain search must give each of them too.
+//! The rows of 01, "Nets to try", and the example of 02's report, with the numbers that stand there. The plain search
+//! must give each of them too.
 
+use crate::block::Block;
+use crate::c_calls::Totals;
 use crate::compare::{faults, Asked, Case, Comparison, Left, Outcome};
-use crate::nets::{line, net_a, net_b};
+use crate::nets::{block, line, net_a, net_b};
 use crate::plain::{self, Checked, Judged, Planned};
 
 /// Net A's bytes as 01 prints them.
@@ -21,7 +24,8 @@ fn from_hex(text: &str) -> Vec<u8> {
 pub fn run(c: &mut Comparison) -> Outcome {
     reading_rows(c)?;
     judging_rows(c)?;
-    planning_rows(c)
+    planning_rows(c)?;
+    report_rows(c)
 }
 
 fn reading_rows(c: &mut Comparison) -> Outcome {
@@ -116,4 +120,29 @@ fn planning_rows(c: &mut Comparison) -> Outcome {
     planning_row(c, ("row: a slack of -1 misses", &a(829)), (1, 1_000), (8_192, 1), Plan(&[1], 20, 599, 0))?;
     planning_row(c, ("row: a slack of 0 meets", &a(830)), (0, 1), (8_192, 1), Plan(&[0], 10, 0, 0))?;
     planning_row(c, ("row: q = 0: 9", &b), (1, 0), (8_192, 64), Refused(9))
+}
+
+/// The report's example in 02, the block of no nets, a net of no bytes, and 13: the totals, and every byte of the text.
+fn report_rows(c: &mut Comparison) -> Outcome {
+    let mut row = |name: &str, bytes: &[u8], totals: Totals, text: &str| {
+        let block = Block::new(name, bytes);
+        assert_eq!((block.totals, block.text().as_str()), (totals, text), "{name}");
+        c.report(&block)
+    };
+    let example = block(&[net_b().bytes(), net_a(229).bytes()]);
+    let mut totals = Totals { nets: 2, planned: 1, cost: 35, ..Default::default() };
+    totals.refused[11] = 1;
+    totals.lengths[..2].fill(10);
+    row(
+        "row: B, then A with required time 229",
+        &example,
+        totals,
+        "nets 2\nplanned 1\nrefused 11 1\ncost 35\nlength 0 10\nlength 1 10\n",
+    )?;
+    row("row: an empty file", &[], Totals::default(), "nets 0\nplanned 0\ncost 0\n")?;
+    let mut totals = Totals { nets: 1, ..Default::default() };
+    totals.refused[1] = 1;
+    row("row: a net of no bytes", &block(&[vec![]]), totals, "nets 1\nplanned 0\nrefused 1 1\ncost 0\n")?;
+    let cut = &example[..example.len() - 1];
+    row("row: cut short", cut, Totals { refusal: 13, ..Default::default() }, "refused 13\n")
 }

@@ -8,3 +8,5 @@ pub mod Demand3
 pub mod Columns
 pub mod Call
 pub mod Chart
+pub mod Totals
+pub mod Block

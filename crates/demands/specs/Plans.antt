@@ -12,11 +12,11 @@ use borrow.Author.Tests.{eqb-true, eq-eqb, ltb-true, lt-ltb}
 use Rattle.laws.specs.Basic.{all, keep}
 use Rattle.laws.specs.Booleans.{and-both}
 use Rattle.laws.specs.Lists.{mem-keep, keep-mem}
-use Rattle.rules.specs.Tree.{Net, stages, layerCount, areLayers, isPlan, plans}
+use Rattle.rules.specs.Tree.{Net, stages, layerCount, on, areLayers, isPlan, plans}
 use Rattle.rules.specs.Timing.{meets}
 use Rattle.rules.specs.Grain.{meetingPlans}
 use Rattle.facts.specs.Accepted.{Accepted}
-use Rattle.oracle.specs.Plans.{EachBelow, mem-plans, plans-mem}
+use Rattle.oracle.specs.Plans.{EachBelow, each-at, mem-plans, plans-mem}
 use Rattle.oracle.specs.Value.{MeetingPlan}
 use Rattle.demands.specs.StageNumbers.{treeOf}
 use Rattle.demands.specs.Required.{meets-same}
@@ -34,6 +34,13 @@ module _ (n : Net) where
   pub plan-length : (x : List ℕ) → isPlan n x ≡ true → length x ≡ stages n
   unfolding isPlan
   plan-length x p = eqb-true (length x) (stages n) (and-both (eqb (length x) (stages n)) (areLayers n x) p .0)
+
+  -- Each stage is on a layer of the net.
+  pub plan-on-layer : (x : List ℕ) → isPlan n x ≡ true → (t : ℕ) → t < stages n → on x t < layerCount n
+  unfolding isPlan areLayers
+  plan-on-layer x p t h =
+      let (a, b) = and-both (eqb (length x) (stages n)) (areLayers n x) p in
+      each-at (layerCount n) x t (tests-below (layerCount n) x b) (omega (arith, eqb-true (length x) (stages n) a))
 
   -- A plan of the net is a member of its list of plans, and every member is one (01, The tree).
   pub mem-plan : (x : List ℕ) → isPlan n x ≡ true → List·Memᴰ x (plans n)

@@ -1,4 +1,5 @@
 pub mod Answers
+pub mod Fields
 pub mod Accepted
 pub mod Stages
 pub mod Words
@@ -9,3 +10,4 @@ pub mod Fits
 pub mod Costs
 pub mod Refusals
 pub mod Chart
+pub mod Block

@@ -3,6 +3,7 @@ use mathlib.Core.Bool.{Bool}
 use Prim.Native.Nat.{ℕ}
 use Rattle.rules.specs.Bytes.{Field, dueLayers, dueDriver, dueNode}
 use Rattle.rules.specs.Reading.{Answer, accept, refuse}
+use Rattle.rules.specs.Block.{dueNet}
 use Rattle.fields.specs.declared.Due.{Due}
 use Rattle.fields.specs.declared.Due.the-variants as due
 use Rattle.fields.specs.declared.Found.{Found}
@@ -13,6 +14,7 @@ abbrev pub dueOf : Due → ℕ → ℕ → ℕ → Bool
 dueOf due.Layers L tag size = dueLayers tag size
 dueOf due.Driver L tag size = dueDriver tag size
 dueOf due.Node L tag size = dueNode L tag size
+dueOf due.Net L tag size = dueNet tag size
 
 -- what a field read finds
 abbrev pub foundField : Found → Answer Field

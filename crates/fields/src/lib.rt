@@ -47,11 +47,12 @@ pub fn within(x: u64, lo: u64, hi: u64) -> bool
     x <= hi
 }
 
-// Which field is due.
+// Which field is due: one of a net, or a net's own field in a block (02, wish 2).
 pub enum Due {
     Layers,
     Driver,
     Node,
+    Net,
 }
 
 // How many bytes a kind's own numbers take.
@@ -95,6 +96,7 @@ fn allowed(due: Due, layers: usize, tag: u32, size: usize) -> bool
             }
             size == 4 + 4 * layers + own
         }
+        Due::Net => tag == 6,
     }
 }
 

@@ -1,7 +1,7 @@
 -- Reading needs only the first bytes of its input: the first fault lies there, and what is accepted ends there. A layers field ends by byte 67, a
 -- driver field by byte 86, and a node's field takes 71 bytes, 12 more for a buffer or a sink. Of the 255 nodes that are taken at most 63 are buffers
 -- and at most 128 are sinks, because a parent is no sink and has at most two children. So the nodes end by byte 20,483, and one field more by 20,566.
-use mathlib.Core.Path.{_≡_, refl, ap, sym, _∙_}
+use mathlib.Core.Path.{_≡_, refl, ap, _∙_}
 use mathlib.Core.Bool.{Bool, true, false, not, _||_}
 use mathlib.Core.Logic.{_⊎_, inl, inr}
 use mathlib.Core.List.{List, [], _∷_, _++_, map}
@@ -26,6 +26,7 @@ use Rattle.rules.specs.Bytes.{layerAt, layersAt, isLayer, driverAt, isDriver, k
 use Rattle.rules.specs.Reading.{Answer, accept, refuse, _>>=_, _>>_, _unless_}
 use Rattle.rules.specs.Reading.{field, children, buffers, hasRoom, isParent, nodeField, nodesFrom, isWhole, read}
 use Rattle.facts.specs.Answers.{accept-injective, then-accepted, unless-accepted}
+use Rattle.facts.specs.Fields.{field-there}
 
 -- How many bytes of the input decide the answer.
 abbrev pub front : ℕ
@@ -47,17 +48,11 @@ unless-both r t u y z e h = ap (λ (b : Bool). _>>_ (r unless b) y) e ∙ go u h
     go true h = h refl
     go false h = refl
 
--- What an accepted field is: its payload starts after its head, its tag and length are due.
+-- Of an accepted field: its payload starts after its head, its tag and length are due.
 field-is : (due : ℕ → ℕ → Bool) (bs : List ℕ) (i : ℕ) {f : Field} → field due bs i ≡ accept f
     → (f .start ≡ i + 3) × (due (f .tag) (f .size) ≡ true)
-unfolding field fieldAt
-field-is due bs i {f} a =
-    let g = fieldAt bs i in
-    let (r1, a1) = unless-accepted 1 (leb (i + 3) (length bs)) _ a in
-    let (r2, a2) = unless-accepted 2 (due (g .tag) (g .size)) _ a1 in
-    let (r3, a3) = unless-accepted 1 (leb (next g) (length bs)) _ a2 in
-    let e = accept-injective a3 in
-    (ap (λ (f : Field). f .start) (sym e), ap (λ (f : Field). due (f .tag) (f .size)) (sym e) ∙ r2)
+unfolding fieldAt
+field-is due bs i a = let F = field-there due bs i a in (ap (λ (f : Field). f .start) (F .is), F .is-due)
 
 -- The bytes bs, and their first M.
 module _ (M : ℕ) (bs : List ℕ) where

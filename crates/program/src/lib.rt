@@ -1,7 +1,9 @@
-// What the programs print: the line for the net that an input holds, of planning (01, Program) and of checking (01, Reading).
+// What the programs print: the line for the net that an input holds, of planning (01, Program) and of checking (01, Reading), and the report over the block
+// that an input is (02, wish 2).
 use line::counts_line;
 use line::plan_line;
 use line::refused_line;
+use report_text::write_report;
 ghost use mathlib.Core.Path.{_≡_};
 ghost use mathlib.Core.List.{_++_};
 ghost use Prim.Native.Nat.{_≤_, _^_};
@@ -9,7 +11,9 @@ ghost use lib.ListN.{length, drop};
 ghost use Rattle.io.specs.Counts.{Counts};
 ghost use Rattle.rules.specs.Grain.{maxExponent};
 ghost use Rattle.rules.specs.Program.{programLine};
+ghost use Rattle.rules.specs.Block.{reportText};
 ghost use Rattle.line.specs.Length.{maxLine};
+ghost use Rattle.report_text.specs.Length.{maxReport};
 ghost use Rattle.program.specs.Checking.{checkLine};
 
 // 2^k, by doubling: the grain.
@@ -33,9 +37,15 @@ pub fn answer_line(net: &[u8], out: &mut [u8]) -> usize
     ensures { λ r. ⌜ now (out .exit) ≡ programLine (now (net .entry)) ++ drop r (now (out .entry)) ⌝ }
     ensures { λ r. ⌜ Counts r (now (out .exit)) ⌝ }
 {
-    let mut table = [0i64; 8192];
-    let mut plan = [0u8; 64];
-    let answer = vorphiel::plan(net, 1, 4, &mut table, &mut plan);
+    let mut table = [0i64; rules::PROGRAM_TABLE];
+    let mut plan = [0u8; rules::PROGRAM_ROOM];
+    let answer = vorphiel::plan(
+        net,
+        rules::PROGRAM_P,
+        rules::PROGRAM_Q,
+        &mut table,
+        &mut plan,
+    );
     if answer.refusal != 0 {
         return refused_line(answer.refusal, out);
     }
@@ -57,4 +67,15 @@ pub fn check_line(net: &[u8], out: &mut [u8]) -> usize
         return refused_line(checked.refusal, out);
     }
     counts_line(checked.nodes, checked.stages, checked.layers, out)
+}
+
+// The lines of the report over the block that the bytes are, at the front of `out`. Answers their length.
+pub fn report_lines(block: &[u8], out: &mut [u8]) -> usize
+    requires { ⌜ maxReport ≤ length (now out) ⌝ }
+    ensures { λ r. ⌜ r ≡ length (reportText (now (block .entry))) ⌝ }
+    ensures { λ r. ⌜ now (out .exit) ≡ reportText (now (block .entry)) ++ drop r (now (out .entry)) ⌝ }
+    ensures { λ r. ⌜ Counts r (now (out .exit)) ⌝ }
+{
+    let report = vorphiel::report(block);
+    write_report(report, out)
 }

@@ -31,6 +31,11 @@ abbrev pub netCounts : Net → Answer Counts
 netCounts (net.Read n s l) = accept (record { nodes = n; stages = s; layers = l })
 netCounts (net.Refused r) = refuse r
 
+-- the refusal number of a reading, 0 for a net
+abbrev pub netRefusal : Net → ℕ
+netRefusal (net.Read n s l) = 0
+netRefusal (net.Refused r) = r
+
 -- the driver at i and the nodes after it, and with these L layers the net
 unfoldable pub restFrom : List ℕ → ℕ → List tree.Layer → ℕ → Answer tree.Net
 restFrom bs L ls i = do

@@ -18,7 +18,7 @@ ghost use Rattle.rules.specs.Tree.{isSink, isBuffer};
 ghost use Rattle.rules.specs.Bytes.{maxLayers, maxNodes, maxChildren};
 ghost use Rattle.words.specs.Words.{Rows};
 ghost use Rattle.reader.specs.Nodes.{wholeFor, nodesRefusal, NodesRead, TreeRead};
-ghost use Rattle.reader.specs.Net.{RestRead, NetRead};
+ghost use Rattle.reader.specs.Net.{netRefusal, RestRead, NetRead};
 
 // 1 for a buffer, else 0.
 pub fn buffer_bit(kind: Kind) -> usize
@@ -147,6 +147,20 @@ pub enum Net {
         layers: usize,
     },
     Refused(u8),
+}
+
+// The refusal number of a reading, 0 for a net.
+pub fn net_refusal(found: Net) -> u8
+    ensures { λ r. ⌜ r ≡ netRefusal found ⌝ }
+{
+    match found {
+        Net::Read {
+            nodes: _,
+            stages: _,
+            layers: _,
+        } => 0,
+        Net::Refused(r) => r,
+    }
 }
 
 // What follows the layers, from `at` on: the driver, then the nodes.

@@ -1,4 +1,4 @@
--- 01, 'Nets to try': the rows marked † as one list of inputs and results, and one proof that settles them against the rules.
+-- 01, 'Nets to try', the rows marked †, and blocks to try (02, wish 2): lists of inputs and results, and one proof that settles them against the rules.
 use mathlib.Core.Bool.{Bool, true, false, _&&_}
 use mathlib.Core.List.{List, [], _∷_, _++_, map}
 use Prim.Native.Nat.{ℕ, zero, suc, _/_, _^_, _%_}
@@ -17,6 +17,11 @@ use Rattle.rules.specs.Judging
 use Rattle.rules.specs.Judging.{judge}
 use Rattle.rules.specs.Planning
 use Rattle.rules.specs.Planning.{PlanAnswer, plan}
+use Rattle.rules.specs.Text
+use Rattle.rules.specs.Text.{ascii}
+use Rattle.rules.specs.Program
+use Rattle.rules.specs.Block
+use Rattle.rules.specs.Block.{reportText}
 
 -- A number in w bytes, most significant first.
 abbrev pub bytes : ℕ → ℕ → List ℕ
@@ -48,6 +53,10 @@ netA t = twoLayers ++ (plainDriver ++ sinkField 0 10 10 20 5 t)
 abbrev pub netB : List ℕ
 netB = twoLayers ++ (plainDriver ++ (bufferField 0 10 10 20 5 1 3 ++ sinkField 1 10 12 25 5 1063))
 
+-- The field of a net in a block.
+abbrev pub inBlock : List ℕ → List ℕ
+inBlock net = bytes 1 6 ++ (bytes 2 (length net) ++ net)
+
 -- Net A as 01 prints it, in hexadecimal.
 abbrev pub netAHex : List ℕ
 netAHex = 0x01 ∷ 0x00 ∷ 0x08 ∷ 0x00 ∷ 0x04 ∷ 0x00 ∷ 0x01 ∷ 0x00 ∷ 0x01 ∷ 0x00 ∷ 0x01 ∷ 0x02 ∷ 0x00 ∷ 0x10 ∷ 0x00 ∷ 0x00 ∷ 0x00 ∷ 0x01 ∷ 0x00 ∷ 0x00 ∷ 0x00 ∷ 0x00 ∷ 0x00 ∷ 0x00 ∷ 0x00 ∷ 0x00 ∷ 0x00 ∷ 0x00 ∷ 0x00 ∷ 0x00 ∷ 0x05 ∷ 0x00 ∷ 0x18 ∷ 0x00 ∷ 0x00 ∷ 0x00 ∷ 0x0A ∷ 0x00 ∷ 0x00 ∷ 0x00 ∷ 0x0A ∷ 0x00 ∷ 0x00 ∷ 0x00 ∷ 0x14 ∷ 0x00 ∷ 0x00 ∷ 0x00 ∷ 0x05 ∷ 0x00 ∷ 0x00 ∷ 0x00 ∷ 0x00 ∷ 0x00 ∷ 0x00 ∷ 0x03 ∷ 0x3E ∷ []
@@ -63,7 +72,7 @@ same eq [] (y ∷ ys) = false
 same eq (x ∷ xs) [] = false
 same eq (x ∷ xs) (y ∷ ys) = eq x y && same eq xs ys
 
--- A row: an input and the results that 01 gives for it.
+-- A row: an input and the results that 01 or 02 gives for it.
 pub data Row : Type 0 where
   -- judged: net, plan; cost, slack
   Judges : List ℕ → List ℕ → ℕ → ℤ → Row
@@ -71,6 +80,8 @@ pub data Row : Type 0 where
   Plans : List ℕ → ℕ → ℕ → ℕ → List ℕ → ℕ → ℤ → ℕ → Row
   -- planned and refused: net, p, q, table entries; refusal
   Refuses : List ℕ → ℕ → ℕ → ℕ → ℕ → Row
+  -- reported: block; text
+  Reports : List ℕ → List ℕ → Row
 
 -- A plan buffer of 64 bytes and a table, with something in them beforehand.
 abbrev pub usedBuffer : List ℕ
@@ -94,6 +105,7 @@ abbrev pub holds : Row → Bool
 holds (Judges bs x c s) = eqb (judge bs x .refusal) 0 && (eqb (judge bs x .cost) c && sameZ (judge bs x .slack) s)
 holds (Plans bs p q m x c s k) = answers (planOn bs p q m) 0 c s k (x ++ drop (length x) usedBuffer) (replicate m (pos 0))
 holds (Refuses bs p q m r) = answers (planOn bs p q m) r 0 (pos 0) 0 usedBuffer (Basic.if_then_else_ (eqb r 12) (replicate m (pos 0)) (usedTable m))
+holds (Reports bs text) = same eqb (reportText bs) text
 
 -- The rows, in the order of 01. Where 01 names no table, it has 200 entries.
 abbrev pub rows : List Row
@@ -112,7 +124,18 @@ rows =
     Refuses netB 2 1 7 12 ∷
     []
 
+-- Blocks: the one of 02, the empty file, a net of no bytes; and 13 for another tag, for a head and for a payload cut short after a net that is whole.
+abbrev pub reportRows : List Row
+reportRows =
+    Reports (inBlock netB ++ inBlock (netA 229)) (ascii "nets 2\nplanned 1\nrefused 11 1\ncost 35\nlength 0 10\nlength 1 10\n") ∷
+    Reports [] (ascii "nets 0\nplanned 0\ncost 0\n") ∷
+    Reports (inBlock []) (ascii "nets 1\nplanned 0\nrefused 1 1\ncost 0\n") ∷
+    Reports netB (ascii "refused 13\n") ∷
+    Reports (inBlock netB ++ (6 ∷ 0 ∷ [])) (ascii "refused 13\n") ∷
+    Reports (inBlock netB ++ (6 ∷ 0 ∷ 1 ∷ [])) (ascii "refused 13\n") ∷
+    []
+
 -- All rows hold, by computing the definitions on them.
-pub settled : T (all (map holds rows))
-unfolding Basic.largest Tree.node Tree.edges Tree.childrenOf Tree.roots Tree.stages Tree.root Tree.layerCount Tree.drives Tree.rootFrom Tree.pathFrom Tree.stageOf Tree.between Tree.edgesOf Tree.terminals Tree.areLayers Tree.isPlan Tree.plans Bytes.number Bytes.signed Bytes.fieldAt Bytes.next Bytes.dueLayers Bytes.dueDriver Bytes.dueNode Bytes.layerAt Bytes.layersAt Bytes.driverAt Bytes.kindAt Bytes.costsAt Bytes.nodeAt Bytes.isTime Bytes.isLayer Bytes.isDriver Bytes.isKind Bytes.isCosts Bytes.isNode Timing.layer Timing.edgeRes Timing.edgeCap Timing.loadFrom Timing.load Timing.edgeDelay Timing.gateRes Timing.gateIntrinsic Timing.gateDelay Timing.wireDelay Timing.requiredFrom Timing.required Timing.slack Timing.meets Timing.edgeCost Timing.cost Timing.stageCost Timing.stageCosts Grain.roundedCost Grain.meetingPlans Grain.leastRounded Grain.qualifies Grain.grainExponent Grain.chosen Grain.columns Grain.columnsNeeded Reading.field Reading.children Reading.buffers Reading.hasRoom Reading.isParent Reading.nodeField Reading.nodesFrom Reading.isWhole Reading.read Reading.check Judging.judged Judging.judge Planning.planned Planning.cleared Planning.plan
+pub settled : T (all (map holds (rows ++ reportRows)))
+unfolding Basic.largest Tree.node Tree.edges Tree.childrenOf Tree.roots Tree.stages Tree.root Tree.layerCount Tree.drives Tree.rootFrom Tree.pathFrom Tree.stageOf Tree.between Tree.edgesOf Tree.terminals Tree.areLayers Tree.isPlan Tree.plans Bytes.number Bytes.signed Bytes.fieldAt Bytes.next Bytes.dueLayers Bytes.dueDriver Bytes.dueNode Bytes.layerAt Bytes.layersAt Bytes.driverAt Bytes.kindAt Bytes.costsAt Bytes.nodeAt Bytes.isTime Bytes.isLayer Bytes.isDriver Bytes.isKind Bytes.isCosts Bytes.isNode Timing.layer Timing.edgeRes Timing.edgeCap Timing.loadFrom Timing.load Timing.edgeDelay Timing.gateRes Timing.gateIntrinsic Timing.gateDelay Timing.wireDelay Timing.requiredFrom Timing.required Timing.slack Timing.meets Timing.edgeCost Timing.cost Timing.stageCost Timing.stageCosts Grain.roundedCost Grain.meetingPlans Grain.leastRounded Grain.qualifies Grain.grainExponent Grain.chosen Grain.columns Grain.columnsNeeded Reading.field Reading.children Reading.buffers Reading.hasRoom Reading.isParent Reading.nodeField Reading.nodesFrom Reading.isWhole Reading.read Reading.check Judging.judged Judging.judge Planning.planned Planning.cleared Planning.plan Text.decimalFrom Text.decimal Program.refusedLine Block.dueNet Block.netField Block.payload Block.netsFrom Block.block Block.lengthOn Block.overPlanned Block.refusedNets Block.totals Block.noTotals Block.report Block.countLine Block.metLine Block.metFrom Block.totalsText Block.answerText Block.reportText
 settled = tt

@@ -8,4 +8,5 @@ pub mod Planning
 pub mod Text
 pub mod Program
 pub mod Chart
+pub mod Block
 pub mod Examples

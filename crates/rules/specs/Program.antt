@@ -4,7 +4,7 @@ use mathlib.Core.List.{List, [], _∷_, _++_, map}
 use Prim.Native.Nat.{ℕ, _^_}
 use lib.IntN.{ℤ, pos, negsuc}
 use Rattle.rules.specs.Timing.{cost, slack}
-use Rattle.rules.specs.Reading.{accept, refuse}
+use Rattle.rules.specs.Reading.{Answer, accept, refuse}
 use Rattle.rules.specs.Planning.{Choice, planned}
 use Rattle.rules.specs.Text.{ascii, space, lineFeed, decimalFrom, decimal, numberField, decimalZ, eachAfter}
 
@@ -41,9 +41,21 @@ planLine cost g slack plan =
 unfoldable pub refusedLine : ℕ → List ℕ
 refusedLine r = numberField refusedWord r ++ lineFeed
 
--- The line for an input: planning with share 1/4, a table of 8,192 entries and a plan buffer of 64.
+-- The entries of the program's table.
+abbrev pub programTable : ℕ
+programTable = 8192
+
+-- The bytes of its plan buffer.
+abbrev pub programRoom : ℕ
+programRoom = 64
+
+-- How the program plans: with share 1/4 and these two.
+abbrev pub programPlanned : List ℕ → Answer Choice
+programPlanned bs = planned bs 1 4 programTable programRoom
+
+-- The line for an input.
 unfoldable pub programLine : List ℕ → List ℕ
-programLine bs = elim (planned bs 1 4 8192 64) [
+programLine bs = elim (programPlanned bs) [
   | accept c ↦ planLine (cost (c .net) (c .plan)) (2 ^ c .k) (slack (c .net) (c .plan)) (c .plan)
   | refuse r ↦ refusedLine r
 ]

@@ -29,6 +29,22 @@ pub const MAX_SHARE: u64 = 1_000;
 // The shares of the chart, 1/1 to 1/10 (02, wish 1); specs/Chart.antt has their number for the definitions.
 pub const CHART_SHARES: u64 = 10;
 
+// How the program plans (01, Program): the share 1/4, the entries of its table, the bytes of its plan buffer; specs/Program.antt has them for the
+// definitions.
+pub const PROGRAM_P: u64 = 1;
+
+pub const PROGRAM_Q: u64 = 4;
+
+pub const PROGRAM_TABLE: usize = 8_192;
+
+pub const PROGRAM_ROOM: usize = 64;
+
+// The most bytes of a block (02, wish 2); specs/Block.antt has the number for the definitions.
+pub const MAX_BLOCK: usize = 65_536;
+
+// The refusal numbers that a report counts, 0 to 12 (02, wish 2); specs/Block.antt has their number for the definitions.
+pub const NET_NUMBERS: usize = 13;
+
 // The kind of a node after the driver, with the numbers of its own (01, Net bytes, tags 3 to 5).
 pub enum Kind {
     Steiner,
@@ -65,4 +81,16 @@ pub struct Planned {
     pub slack: i64,
     pub k: u64,
     pub floor: u64,
+}
+
+// What a report over a block answers (02, wish 2): 13 or 0; how many nets there are, how many were planned, and how many were refused with each number;
+// the cost of the planned nets, and their total edge length on each layer.
+#[repr(C)]
+pub struct Report {
+    pub refusal: u8,
+    pub nets: u64,
+    pub planned: u64,
+    pub refused: [u64; NET_NUMBERS],
+    pub cost: u64,
+    pub lengths: [u64; MAX_LAYERS],
 }

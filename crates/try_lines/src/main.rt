@@ -1,4 +1,5 @@
 // Compares the lines that the programs print (01, Program) with fixed byte strings, and prints for each its name and `ok`, or the line that came instead.
+use compare_text::compare;
 ghost use mathlib.Core.Path.{_≡_};
 ghost use Prim.Native.Nat.{_≤_};
 ghost use lib.ListN.{length};
@@ -12,17 +13,6 @@ fn net_b() -> [u8; 84]
     \x02\x00\x10\x00\x00\x00\x01\x00\x00\x00\x00\x00\x00\x00\x00\x00\x00\x00\x00\
     \x04\x00\x18\x00\x00\x00\x0a\x00\x00\x00\x0a\x00\x00\x00\x14\x00\x00\x00\x05\x00\x00\x00\x01\x00\x00\x00\x03\
     \x05\x00\x18\x00\x01\x00\x0a\x00\x00\x00\x0c\x00\x00\x00\x19\x00\x00\x00\x05\x00\x00\x00\x00\x00\x00\x04\x27"
-}
-
-// Prints a name, and whether the line is the one expected.
-fn compare(name: &[u8], line: &[u8], expected: &[u8]) {
-    io::write_all(1, name);
-    if check::same(line, expected) {
-        io::write_all(1, b": ok\n");
-    } else {
-        io::write_all(1, b": not expected: ");
-        io::write_all(1, line);
-    }
 }
 
 // The line that planning prints for a net.

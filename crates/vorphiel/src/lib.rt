@@ -3,10 +3,12 @@ use fields::share_in_range;
 use planning::plan_net;
 use planning::refused;
 use reader::Net;
+use reader::net_refusal;
 use reader::read;
 use rules::Checked;
 use rules::Judged;
 use rules::Planned;
+use rules::Report;
 use timing::are_layers;
 use timing::judged;
 use timing::judging_refused;
@@ -17,8 +19,8 @@ ghost use Rattle.rules.specs.Reading.{check};
 ghost use Rattle.rules.specs.Judging.{judge};
 ghost use Rattle.rules.specs.Planning.{planAnswer, plan, FloorPromise, Demand2, Demand3};
 ghost use Rattle.rules.specs.Chart.{tableEntries};
+ghost use Rattle.rules.specs.Block.{report, BlockPromise};
 ghost use Rattle.planning.specs.Calls.{PlansNet};
-ghost use Rattle.vorphiel.specs.Answers.{netRefusal};
 
 // Checking (01, Reading): the counts of nodes, stages and layers of the net that the bytes hold, or the number of the first fault and zeros.
 pub fn check(net: &[u8]) -> Checked
@@ -64,20 +66,6 @@ pub extern "C" fn vorphiel_check(
     *stages = checked.stages;
     *layers = checked.layers;
     checked.refusal
-}
-
-// The refusal number of a reading, 0 for a net.
-fn net_refusal(found: Net) -> u8
-    ensures { λ r. ⌜ r ≡ netRefusal found ⌝ }
-{
-    match found {
-        Net::Read {
-            nodes: _,
-            stages: _,
-            layers: _,
-        } => 0,
-        Net::Refused(r) => r,
-    }
 }
 
 // Judging (01, Judging): the cost and slack of a plan, or a refusal number and zeros: 1 to 6 of the net, then 7, then 8.
@@ -210,4 +198,22 @@ pub extern "C" fn vorphiel_table_entries(s: u64, q: u64) -> u64
     ensures { λ r. ⌜ r ≡ tableEntries s q ⌝ }
 {
     table_entries(s, q)
+}
+
+// The report over a block (02, wish 2): the totals over its nets, each planned as the program plans, or 13 and zeros. The clauses: the answer is that of the
+// definition; what the totals add up to, and demand 3 for the block.
+pub fn report(block: &[u8]) -> Report
+    ensures { λ r. ⌜ r ≡ report (now (block .entry)) ⌝ }
+    ensures { λ r. ⌜ BlockPromise (now (block .entry)) r ⌝ }
+{
+    block::report(block)
+}
+
+// The report for hosts in other languages: a struct by value.
+#[no_mangle]
+pub extern "C" fn vorphiel_report(block: &[u8]) -> Report
+    ensures { λ r. ⌜ r ≡ report (now (block .entry)) ⌝ }
+    ensures { λ r. ⌜ BlockPromise (now (block .entry)) r ⌝ }
+{
+    report(block)
 }

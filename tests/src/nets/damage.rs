@@ -67,6 +67,28 @@ fn parents_to_try(draft: &Draft, number: usize) -> Vec<i128> {
     parents
 }
 
+/// Net B with a change.
+pub fn changed_b(change: impl Fn(&mut Draft)) -> Vec<u8> {
+    let mut draft = net_b();
+    change(&mut draft);
+    draft.bytes()
+}
+
+/// For each of the refusals 1 to 6 a net that has it.
+pub fn unreadable() -> Vec<(u8, Vec<u8>)> {
+    let whole = net_b().bytes();
+    let mut wrong_tag = whole.clone();
+    wrong_tag[0] = 9;
+    vec![
+        (1, whole[..whole.len() - 1].to_vec()),
+        (2, wrong_tag),
+        (3, changed_b(|draft| draft.nodes[1].costs[1] = 0)),
+        (4, line(64, 0).bytes()),
+        (5, changed_b(|draft| draft.nodes[1].parent = 2)),
+        (6, changed_b(|draft| draft.nodes.truncate(1))),
+    ]
+}
+
 /// A name and bytes that need not be a net.
 type Named = (String, Vec<u8>);
 

@@ -1,6 +1,7 @@
-//! Nets as bytes: random whole nets of several families, nets made for one purpose, and damaged ones. The same seed
-//! gives the same nets.
+//! Nets as bytes: random whole nets of several families, nets made for one purpose, and damaged ones; and blocks of
+//! nets. The same seed gives the same nets.
 
+mod blocks;
 mod damage;
 mod draft;
 mod grown;
@@ -8,7 +9,10 @@ mod named;
 mod random;
 mod times;
 
-pub use damage::{bits_turned, damaged, heads, layer_counts, long, rubbish, scrambled, too_many};
+pub use blocks::{block, every_line, fixed as fixed_blocks, large as large_blocks, random_block};
+pub use damage::{
+    bits_turned, changed_b, damaged, heads, layer_counts, long, rubbish, scrambled, too_many, unreadable,
+};
 pub use draft::{Draft, Kind, Node, TIME};
 pub use grown::{at_limits, cheap, random_net, LARGE_FAMILIES, SMALL_FAMILIES};
 pub use named::{all_kinds, costing, crossed, dear_b, even_line, even_tree, last_layer_cheapest, line};

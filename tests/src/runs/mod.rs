@@ -1,5 +1,6 @@
 //! The sets of calls that are compared.
 
+pub mod blocks;
 mod chart;
 mod limits;
 mod order;
@@ -16,13 +17,16 @@ pub fn all(c: &mut Comparison, seed: u64, count: usize) -> Outcome {
     rows::run(c)?;
     order::run(c)?;
     chart::fixed(c)?;
+    blocks::fixed(c)?;
     limits::numbers(c)?;
     reading::fixed(c)?;
     universe::run(c)?;
     limits::nets(c)?;
+    blocks::large(c)?;
     chart::served(c)?;
     let mut random = Random::new(seed);
     chart::random(c, &mut Random::new(seed ^ 0xC4), 10 * count)?;
+    blocks::random(c, &mut Random::new(seed ^ 0xB6), count / 2)?;
     reading::damaged(c, &mut random, 4 + count / 40)?;
     planning::small_nets(c, &mut random, count)?;
     limits::random(c, &mut random, count / 100)?;

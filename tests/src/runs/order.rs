@@ -1,7 +1,7 @@
 //! Refusals whose conditions hold at once: "each is given just where its condition is the first to hold".
 
 use crate::compare::{Case, Comparison, Outcome};
-use crate::nets::{self, line, net_b, Draft};
+use crate::nets::{self, net_b};
 
 /// Every choice of some of these numbers.
 fn choices(numbers: &[u8]) -> Vec<Vec<u8>> {
@@ -9,30 +9,8 @@ fn choices(numbers: &[u8]) -> Vec<Vec<u8>> {
     bits.map(|bits: usize| (0..numbers.len()).filter(|&i| bits >> i & 1 == 1).map(|i| numbers[i]).collect()).collect()
 }
 
-/// Net B with a change.
-fn changed(change: impl Fn(&mut Draft)) -> Vec<u8> {
-    let mut draft = net_b();
-    change(&mut draft);
-    draft.bytes()
-}
-
-/// For each of the refusals 1 to 6 a net that has it.
-fn unreadable() -> Vec<(u8, Vec<u8>)> {
-    let whole = net_b().bytes();
-    let mut wrong_tag = whole.clone();
-    wrong_tag[0] = 9;
-    vec![
-        (1, whole[..whole.len() - 1].to_vec()),
-        (2, wrong_tag),
-        (3, changed(|draft| draft.nodes[1].costs[1] = 0)),
-        (4, line(64, 0).bytes()),
-        (5, changed(|draft| draft.nodes[1].parent = 2)),
-        (6, changed(|draft| draft.nodes.truncate(1))),
-    ]
-}
-
 pub fn run(c: &mut Comparison) -> Outcome {
-    for (refusal, bytes) in unreadable() {
+    for (refusal, bytes) in nets::unreadable() {
         for others in choices(&[9, 10, 12]) {
             planned(c, &bytes, &[&[refusal], &others[..]].concat())?;
         }
@@ -41,7 +19,7 @@ pub fn run(c: &mut Comparison) -> Outcome {
         }
     }
     let whole = net_b().bytes();
-    let late = changed(|draft| {
+    let late = nets::changed_b(|draft| {
         if let nets::Kind::Sink { required, .. } = &mut draft.nodes[1].kind {
             *required = 100;
         }

@@ -203,11 +203,87 @@ with_words! {
     }
 }
 
+with_words! {
+    /// About the report over a block.
+    Block {
+        // Reading the block.
+        LongestRefused "a block of 65,536 bytes refused",
+        LongerRead "a block of 65,537 bytes read",
+        BlockLength16 "the length of a block by its low 16 bits",
+        NoNetsRefused "an empty file gives 13",
+        TagUnseen "a field of another tag read as a net",
+        FirstTagOnly "only the first field's tag looked at",
+        BlockTagLowBits "tags by their low 3 bits",
+        TagPassedOver "a field of another tag passed over",
+        TagEnds "another tag taken for the end",
+        HeadEnds "a last head cut short taken for the end",
+        PayloadEnds "a last payload cut short taken for the end",
+        PayloadRest "a last payload cut short planned as far as it is there",
+        NumberOfField "1 or 2 for 13",
+        PlannedFirst "13 found after nets were planned, their totals beside it",
+        NetsBeside "13 with the number of the nets before it",
+        NetLength8 "payload lengths by their low byte",
+        NetLengthSigned "a payload of 32,768 bytes or more gives 13",
+        LongNetRefused "a payload longer than any net gives 13",
+        UnreadableRefused "a net that cannot be read gives 13",
+        NoBytesRefused "a net of no bytes gives 13",
+        NoBytesSkipped "a net of no bytes not counted",
+        NoBytesEnds "a net of no bytes taken for the end",
+        LastNetLeftOut "the last net left out",
+        // How each net is planned.
+        ShareFifth "share 1/5",
+        ShareThird "share 1/3",
+        ShareNone "share 0",
+        ShareTurned "share 4/1",
+        TableShorter "a table of 8,191 entries",
+        TableLonger "a table of 8,256 entries",
+        BufferShorter "a plan buffer of 63",
+        // Nets, planned, refused.
+        NetsArePlanned "nets counting the planned ones only",
+        AllPlanned "planned counting all nets",
+        ShortPlanned "nets refused with 12 counted as planned too",
+        PlannedRefusedWith0 "planned nets counted as refused with 0",
+        RefusedUp "refused nets counted one number too high",
+        RefusedDown "refused nets counted one number too low",
+        ShortIsLate "12 counted with 11",
+        CountedOnce "each number counted once",
+        Counts8Bits "counts by their low byte",
+        // Cost.
+        CostOfLate "cost of nets refused with 11 counted",
+        CostOfShort "cost of nets refused with 12 counted",
+        CostAgain "the cost of the net before counted again for a refused one",
+        CostOfLast "the cost of the last planned net alone",
+        FloorForCost "floors added up for costs",
+        Cost32 "cost by its low 32 bits",
+        // Lengths.
+        LengthsOfLate "lengths of nets refused with 11 counted",
+        LengthsOfShort "lengths of nets refused with 12 counted",
+        LengthsAgain "the lengths of the net before counted again for a refused one",
+        LengthsOfLast "the lengths of the last planned net alone",
+        OnParentsLayer "length counted on the parent's layer",
+        OnLowerLayer "the edge above a buffer counted on the layer of the stage below",
+        ByStage "lengths added up by stage number",
+        ByPlace "lengths added up by the layer's place among those that the net takes",
+        FromLastLayer "layers counted from the last",
+        OnLayer0 "all wire on layer 0",
+        SteinerLeftOut "edges to Steiner points left out",
+        LastEdgeLeftOut "the last edge of a net left out",
+        DriverLeftOut "edges at the driver left out",
+        OneEdge "of each stage one edge counted",
+        Layer15LeftOut "layer 15 left out",
+        CostsForLengths "costs added up for lengths",
+        Lengths16 "lengths by their low 16 bits",
+        // What only a host can see.
+        BlockChanged "the block changed",
+    }
+}
+
 /// One mistake, or none.
 #[derive(Clone, Copy, PartialEq, Debug)]
 pub enum Mistake {
     None,
     Other(Other),
+    Block(Block),
     /// About the number at a place of `NUMBERS`.
     Number(usize, Slip),
     /// Where plans are judged, or where one is searched for.
@@ -233,6 +309,7 @@ impl Mistake {
         match self {
             Mistake::None => String::from("no mistake"),
             Mistake::Other(other) => String::from(other.words()),
+            Mistake::Block(slip) => format!("report: {}", slip.words()),
             Mistake::Number(place, slip) => format!("{}: {}", NUMBERS[place].0, slip.words()),
             Mistake::Timing(Call::Judge, timing) => format!("{}, in judging", timing.words()),
             Mistake::Timing(_, timing) => format!("{}, in the search", timing.words()),
@@ -256,6 +333,7 @@ impl Mistake {
     pub fn all() -> Vec<Mistake> {
         let mut all = vec![];
         all.extend(Other::ALL.iter().map(|&other| Mistake::Other(other)));
+        all.extend(Block::ALL.iter().map(|&slip| Mistake::Block(slip)));
         for (place, &(_, width, low, _)) in NUMBERS.iter().enumerate() {
             // Nothing is below 0 but a time.
             let made = Slip::ALL.iter().filter(|&&slip| slip != Slip::BelowAccepted || low > 0 || width == 8);

@@ -8,6 +8,7 @@ mod mistakes;
 mod pointers;
 mod rare;
 mod reading;
+mod report;
 mod search;
 mod timing;
 

@@ -1,9 +1,9 @@
 //! The planner's calls on the pointers and lengths that the library's are given. They make the mistake that was chosen
 //! for their thread.
 
-use super::mistakes::{Call, Mistake, Other};
+use super::mistakes::{Block, Call, Mistake, Other};
 use super::Wrong;
-use crate::c_calls::{Check, Judge, Plan, TableEntries};
+use crate::c_calls::{Check, Judge, Plan, Report, TableEntries, Totals};
 use crate::host::Interface;
 use crate::plain::Planned;
 use std::cell::{Cell, RefCell};
@@ -22,7 +22,7 @@ thread_local! {
 pub fn interface(mistake: Mistake) -> Interface {
     WRONG.set(Wrong { mistake });
     LAST.take();
-    Interface { check, judge, plan, table_entries }
+    Interface { check, judge, plan, table_entries, report }
 }
 
 unsafe fn check(Check { net, net_len, nodes, stages, layers }: Check) -> u8 {
@@ -74,6 +74,15 @@ unsafe fn plan(asked: Plan) -> u8 {
 
 unsafe fn table_entries(TableEntries { s, q }: TableEntries) -> u64 {
     WRONG.get().table_entries(s, q)
+}
+
+unsafe fn report(Report { block, block_len }: Report) -> Totals {
+    let wrong = WRONG.get();
+    let totals = wrong.report(from_raw_parts(block, block_len));
+    if wrong.slips(Block::BlockChanged) && block_len > 0 {
+        *block.cast_mut() ^= 1;
+    }
+    totals
 }
 
 impl Wrong {

@@ -22,6 +22,7 @@ pub const NUMBERS: &[(&str, usize, i64, i64)] = &[
 ];
 
 pub const DRIVER: u8 = 2;
+pub const STEINER: u8 = 3;
 pub const BUFFER: u8 = 4;
 pub const SINK: u8 = 5;
 

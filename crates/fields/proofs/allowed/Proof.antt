@@ -3,6 +3,7 @@ use borrow.Author.Needs.{needs}
 use native.Mathlib.Omega.{arith}
 use borrow.Author.Tests.{le-leb, lt-leb, eq-eqb, ne-eqb}
 use Rattle.rules.specs.Bytes.{dueLayers, dueDriver, dueNode}
+use Rattle.rules.specs.Block.{dueNet}
 use Rattle.fields.proofs.Laws.{kind-size-le}
 use Rattle.fields.proofs.allowed.Statement.{statement}
 use Rattle.fields.proofs.allowed.Tie as tie
@@ -61,6 +62,9 @@ add-result c = search needs
 add-result-2 : tie.Need-add-result-2
 add-result-2 c = omega (arith, kind-size-le (c .before .before .before .before .before .args .tag), c .before .before .kind-size .ensures)
 
+enum-told-4 : tie.Need-enum-told-4
+enum-told-4 c = search needs
+
 returns-7 : tie.Need-returns-7
 unfolding dueLayers
 returns-7 c =
@@ -80,6 +84,10 @@ unfolding dueNode
 returns-9 c =
     simp (c .before .before .before .enum-told3 .given .1, le-leb _ _ (c .before .if5 .left), le-leb _ _ (c .if6 .left), c .before .before .kind-size .ensures)
 
+returns-10 : tie.Need-returns-10
+unfolding dueNet
+returns-10 c = simp (c .enum-told4 .given .1)
+
 pub allowed-spec : {M : Type 1} → statement M
 allowed-spec =
     tie.close
@@ -97,6 +105,8 @@ allowed-spec =
     mul-result
     add-result
     add-result-2
+    enum-told-4
     returns-7
     returns-8
-    returns-9)
+    returns-9
+    returns-10)

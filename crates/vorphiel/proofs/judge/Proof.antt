@@ -4,7 +4,7 @@ use mathlib.Core.Path.{ap, sym, _∙_}
 use borrow.Author.Tests.{not-true, not-false, eqb-true, eqb-false}
 use Rattle.reader.specs.Kept.{Kept, held-read}
 use Rattle.tree.specs.Plans.{fitting}
-use Rattle.vorphiel.specs.Answers.{netRefusal}
+use Rattle.reader.specs.Net.{netRefusal}
 use Rattle.vorphiel.proofs.Judging.{judge-unread, judge-7, judge-8, judge-done}
 use Rattle.vorphiel.proofs.judge.Statement.{statement}
 use Rattle.vorphiel.proofs.judge.Tie as tie
@@ -14,7 +14,7 @@ use Rattle.reader.proofs.read.Reads as read-reads
 use Rattle.timing.proofs.are_layers.Reads as are-layers-reads
 use Rattle.timing.proofs.judged.Reads as judged-reads
 use Rattle.timing.proofs.judging_refused.Reads as judging-refused-reads
-use Rattle.vorphiel.proofs.net_refusal.Reads as net-refusal-reads
+use Rattle.reader.proofs.net_refusal.Reads as net-refusal-reads
 
 kept : (c : tie.After-known-told)
     → Kept (c .before .before .before .before .before .before .before .before .args .net .now) (c .before .before .before .before .read .last .1 .1 .0)

@@ -4,7 +4,7 @@ use mathlib.Core.Path.{ap, sym, _∙_}
 use borrow.Author.Tests.{not-true, not-false, leb-true, leb-false}
 use Rattle.reader.specs.Kept.{Kept, held-read}
 use Rattle.planning.specs.Calls.{refusedWith}
-use Rattle.vorphiel.specs.Answers.{netRefusal}
+use Rattle.reader.specs.Net.{netRefusal}
 use Rattle.vorphiel.proofs.Planning.{plan-unread, plan-9, plan-10, admitted}
 use Rattle.vorphiel.proofs.planned.Statement.{statement}
 use Rattle.vorphiel.proofs.planned.Tie as tie
@@ -14,7 +14,7 @@ use Rattle.fields.proofs.share_in_range.Reads as share-in-range-reads
 use Rattle.planning.proofs.plan_net.Reads as plan-net-reads
 use Rattle.planning.proofs.refused.Reads as refused-reads
 use Rattle.reader.proofs.read.Reads as read-reads
-use Rattle.vorphiel.proofs.net_refusal.Reads as net-refusal-reads
+use Rattle.reader.proofs.net_refusal.Reads as net-refusal-reads
 
 kept : (c : tie.After-known-told)
     → Kept (c .before .before .before .before .before .before .before .before .args .net .now) (c .before .before .before .before .read .last .1 .1 .0)

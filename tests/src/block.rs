@@ -1,0 +1,55 @@
+//! A block, and what 02 says of it: each net planned by the plain search, "as 01's program does".
+
+use crate::c_calls::Totals;
+use crate::compare::{Asked, Case};
+use crate::plain::{self, PlannedNet};
+
+/// A block with what the report tells of it.
+pub struct Block {
+    pub name: String,
+    pub bytes: Vec<u8>,
+    pub totals: Totals,
+    /// The wire of its planned nets; 0 for bytes that are no block.
+    wire: i128,
+}
+
+impl Block {
+    pub fn new(name: &str, bytes: &[u8]) -> Block {
+        let (totals, wire) = match plain::read_block(bytes) {
+            Err(refusal) => (Totals { refusal, ..Default::default() }, 0),
+            Ok(nets) => {
+                let planned: Vec<PlannedNet> = nets.into_iter().map(planned_by_program).collect();
+                (plain::totals(&planned), plain::planned_wire(&planned))
+            }
+        };
+        Block { name: String::from(name), bytes: bytes.to_vec(), totals, wire }
+    }
+
+    /// What the report prints.
+    pub fn text(&self) -> String {
+        plain::report_text(&self.totals)
+    }
+
+    /// What is wrong with totals that were found.
+    pub fn faults(&self, found: &Totals) -> Vec<String> {
+        let wire: i128 = found.lengths.iter().map(|&length| length as i128).sum();
+        let told = found.planned as i128 + found.refused.iter().map(|&count| count as i128).sum::<i128>();
+        let laws = [
+            (found == &self.totals, "the totals"),
+            (wire == self.wire, "the lengths over layers do not add up to the wire of the planned nets"),
+            (told == found.nets as i128, "planned and refused nets do not add up to the nets"),
+        ];
+        laws.iter().filter(|(holds, _)| !holds).map(|(_, otherwise)| String::from(*otherwise)).collect()
+    }
+}
+
+/// One net of a block, planned with the program's share, table and plan buffer.
+fn planned_by_program(bytes: &[u8]) -> PlannedNet {
+    let stages = plain::check(bytes).stages as usize;
+    let case = Case::searched("of a block", bytes, plain::columns(plain::PROGRAM_TABLE, stages));
+    let left = case.planned(&Asked::by_program());
+    match (case.read, left.answer.refusal) {
+        (Ok(net), 0) => Ok((net, left.buffer[..stages].to_vec())),
+        (_, refusal) => Err(refusal),
+    }
+}
