@@ -1,5 +1,5 @@
 -- What a net of the block adds, by what reading and planning answered for it.
-use mathlib.Core.Path.{_≡_, refl, ap, sym, _∙_, subst}
+use mathlib.Core.Path.{_≡_, ap, sym, _∙_, subst}
 use mathlib.Core.Bool.{Bool}
 use mathlib.Core.List.{List}
 use Prim.Native.Nat.{ℕ, _≤_, _<_}
@@ -13,14 +13,14 @@ use Rattle.rules.specs.Tree.{Net, stages, isPlan, areLayers}
 use Rattle.rules.specs.Timing.{cost}
 use Rattle.rules.specs.Grain.{grainExponent}
 use Rattle.rules.specs.Reading.{accept, refuse, read}
-use Rattle.rules.specs.Planning.{Choice, PlanAnswer, planned}
 use Rattle.rules.specs.Program.{programTable, programRoom, programPlanned}
 use Rattle.rules.specs.Block.{netNumbers}
 use Rattle.facts.specs.Answers.{accept-injective, turned-refused}
 use Rattle.facts.specs.Refusals.{read-numbered}
 use Rattle.demands.specs.Plans.{plan-length}
 use Rattle.demands.specs.Demand2.{chosen-is}
-use Rattle.demands.specs.Call.{planned-numbered, choice-settled, accepted-choice, number-refused, plan-accepted, plan-taken}
+use Rattle.demands.specs.Call.{planned-numbered, unread-refused}
+use Rattle.demands.specs.Program.{program-refused, ProgramChoice, program-accepted}
 use Rattle.reader.specs.Net.{countsOf, counts, NetRead}
 use Rattle.reader.specs.declared.Net.the-variants as net
 use Rattle.reader.specs.Kept.{Kept}
@@ -35,10 +35,10 @@ pub record Refused (bs : List ℕ) (r : ℕ) : Type 0 where
 
 -- one that reading refuses
 pub unread : {bs w : List ℕ} {keep : Bool} {r : ℕ} → NetRead bs keep (net.Refused r) w → Refused bs r
-unfolding counts planned
+unfolding counts
 unread {bs} {r = r} R =
     let e = turned-refused (read bs) countsOf (R .answer) in
-    record { number-is = rw (e, planned) refl; number-low = omega (arith, read-numbered bs .low r e) }
+    record { number-is = unread-refused bs 1 4 programTable programRoom e; number-low = omega (arith, read-numbered bs .low r e) }
 
 -- one that is read may be planned as the program plans
 pub admitted-net : {bs w : List ℕ} {nodes s layers : ℕ} → Kept bs w nodes s layers → Admitted w nodes layers s 1 4 programRoom
@@ -54,7 +54,7 @@ module _ (bs : List ℕ) (table : List ℤ) (buffer : List ℕ) (long : length t
   -- one that planning refuses
   pub not-planned : 1 ≤ r .refusal → Refused bs (r .refusal)
   not-planned h =
-      let e : programPlanned bs ≡ refuse (r .refusal) = rw (long, room) at (number-refused bs 1 4 table buffer r (P .same) refl h) in
+      let e = program-refused bs table buffer long room r (P .same) h in
       record { number-is = e; number-low = omega (arith, planned-numbered bs 1 4 programTable programRoom .low (r .refusal) e) }
 
   -- a planned net n, with plan x
@@ -64,26 +64,24 @@ module _ (bs : List ℕ) (table : List ℤ) (buffer : List ℕ) (long : length t
     pub fits : Fitting n x
     pub cost-is : r .cost ≡ cost n x
 
-  taken : (n : Net) → read bs ≡ accept n → (c : Choice) → planned bs 1 4 (length table) (length buffer) ≡ accept c
-      → PlannedNet n (take (stages n) after)
+  -- the choice that was settled is such a net
+  chosen-net : (C : ProgramChoice bs table buffer long room r (P .same)) → PlannedNet (C .choice .net) (C .choice .plan)
   unfolding isPlan
-  taken n h c e =
-      let S = choice-settled bs 1 4 (length table) (length buffer) e in
-      let w : c .net ≡ n = accept-injective (sym (S .holds) ∙ h) in
-      let (o, t) = plan-taken bs 1 4 table buffer r (P .same) n h c e in
-      let C = chosen-is n (grainExponent n 1 4) (c .plan) o in
-      let layered = and-right (eqb (length (c .plan)) (stages n)) (areLayers n (c .plan)) (C .is-plan) in
-      let paid : r .cost ≡ cost (c .net) (c .plan) = ap (λ (a : PlanAnswer). a .cost) (P .same ∙ plan-accepted bs 1 4 table buffer e) in
-      let here : programPlanned bs ≡ accept c = rw (long, room) at e in
-      subst (PlannedNet n) (sym t) (record {
-        k = c .k;
-        choice-is = here ∙ ap (λ (m : Net). accept (record { net = m; k = c .k; plan = c .plan })) w;
-        fits = fitting (c .plan) (plan-length n (c .plan) (C .is-plan)) layered;
-        cost-is = paid ∙ ap (λ (m : Net). cost m (c .plan)) w;
-      })
+  chosen-net C =
+      let n = C .choice .net in
+      let x = C .choice .plan in
+      let is = chosen-is n (grainExponent n 1 4) x (C .settled .chosen-here) .is-plan in
+      record {
+        k = C .choice .k;
+        choice-is = C .choice-is;
+        fits = fitting x (plan-length n x is) (and-right (eqb (length x) (stages n)) (areLayers n x) is);
+        cost-is = C .cost-is;
+      }
 
-  -- its plan stands at the front of the buffer
+  -- one that is planned: the net that was read, with the plan at the front of the buffer
   pub is-planned : {w : List ℕ} {nodes s layers : ℕ} → Kept bs w nodes s layers → r .refusal ≡ 0 → PlannedNet (netIn w) (take s after)
-  is-planned {w} K z =
-      let (c, e) = accepted-choice bs 1 4 table buffer r (P .same) z in
-      subst (λ (m : ℕ). PlannedNet (netIn w) (take m after)) (sym (K .stages-are)) (taken (netIn w) (K .holds) c e)
+  is-planned {w} {s = s} K z =
+      let C = program-accepted bs table buffer long room r (P .same) z in
+      let e : C .choice .net ≡ netIn w = accept-injective (sym (C .settled .holds) ∙ K .holds) in
+      let h : C .choice .plan ≡ take s after = sym (C .plan-here) ∙ ap (λ (m : ℕ). take m after) (ap stages e ∙ sym (K .stages-are)) in
+      subst (λ (n : Net). PlannedNet n (take s after)) e (subst (PlannedNet (C .choice .net)) h (chosen-net C))

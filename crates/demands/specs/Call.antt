@@ -49,6 +49,11 @@ module _ (bs : List ℕ) (p q entries room : ℕ) where
       (unless-numbered 12 (leb (columnsNeeded n (grainExponent n p q)) (columns n entries)) _ (omega arith) (omega arith)
       (then-numbered (taken (chosen n (grainExponent n p q))) _ (taken-numbered (chosen n (grainExponent n p q))) (λ x. accept-numbered 12 _))))))
 
+  -- A net that cannot be read is refused with the number of its first fault.
+  pub unread-refused : {r : ℕ} → read bs ≡ refuse r → planned bs p q entries room ≡ refuse r
+  unfolding planned
+  unread-refused e = rw (e, planned) refl
+
   -- What an accepted call settles.
   pub record Settled (c : Choice) : Type 0 where
     pub holds : read bs ≡ accept (c .net)

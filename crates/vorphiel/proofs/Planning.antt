@@ -1,5 +1,5 @@
 -- What planning answers, by the refusals in their order, from what the reader gave.
-use mathlib.Core.Path.{_≡_, refl}
+use mathlib.Core.Path.{_≡_}
 use mathlib.Core.Bool.{Bool, true, false, _&&_}
 use mathlib.Core.List.{List}
 use Prim.Native.Nat.{ℕ, _≤_, _<_}
@@ -15,6 +15,7 @@ use Rattle.rules.specs.Reading.{refuse, read}
 use Rattle.rules.specs.Planning.{maxShare, planned}
 use Rattle.facts.specs.Answers.{turned-refused}
 use Rattle.facts.specs.Refusals.{read-numbered}
+use Rattle.demands.specs.Call.{unread-refused}
 use Rattle.reader.specs.Net.{countsOf, counts, NetRead}
 use Rattle.reader.specs.declared.Net.the-variants as net
 use Rattle.reader.specs.Kept.{Kept}
@@ -38,16 +39,12 @@ module _ (bs : List ℕ) (p q : ℕ) (table : List ℤ) (buffer : List ℕ) wher
     floor-kept = refused-floor bs p q r some;
   }
 
-  unread : {r : ℕ} → read bs ≡ refuse r → planned bs p q (length table) (length buffer) ≡ refuse r
-  unfolding planned
-  unread e = rw (e, planned) refl
-
   pub plan-unread : {r : ℕ} {keep : Bool} {w : List ℕ} → NetRead bs keep (net.Refused r) w → PlansNet bs p q table table buffer buffer (refusedWith r)
   unfolding counts
   plan-unread {r} R =
       let e = turned-refused (read bs) countsOf (R .answer) in
       let low = read-numbered bs .low r e in
-      early (unread e) (read-numbered bs .some r e) (omega arith)
+      early (unread-refused bs p q (length table) (length buffer) e) (read-numbered bs .some r e) (omega arith)
 
   module _ {w : List ℕ} {nodes layers s : ℕ} (K : Kept bs w nodes s layers) where
     at-9 : leb p maxShare && within 1 maxShare q ≡ false → planned bs p q (length table) (length buffer) ≡ refuse 9
