@@ -555,7 +555,7 @@ static struct place place_for(char what, size_t number)
     case 'i': return (struct place){what, 0, 4, 0, 1000000000};
     case 't': return (struct place){what, 0, 8, -time, time};
     case 'p': return (struct place){what, 0, 2, 0, number == 0 ? 0 : (int64_t)number - 1};
-    case 'l': return (struct place){what, 0, 2, 0, 1000};
+    case 'l': return (struct place){what, 0, 2, 0, 4000};
     default: return (struct place){'c', 0, 4, 1, 1000000};
     }
 }
@@ -823,7 +823,49 @@ static void make_net(struct net *net)
 
 /* ---- One net: all calls, and what they say of each other ---- */
 
-static uint64_t nets, readable, planned;
+static uint64_t nets, readable, planned, planned_long;
+
+static int in_range(const struct net *net, const struct place *place)
+{
+    int64_t value = (int64_t)read_number(net, place);
+    return value >= place->low && value <= place->high;
+}
+
+/* Whether no number is outside its range, as far as fields are there; parents aside, which have a refusal of their own. */
+static int all_in_range(const struct net *net)
+{
+    struct fields fields;
+    struct place places[MOST_PLACES];
+    find_fields(net, &fields);
+    for (size_t field = 0; field < fields.count; field++)
+        for (size_t i = find_places(net, fields.at[field], fields.at[field + 1], field, places); i > 0; i--)
+            if (places[i - 1].what != 'p' && !in_range(net, &places[i - 1]))
+                return 0;
+    return 1;
+}
+
+/* Checks a net, and sees that no number outside its range was read, and that 3 is given for one only. */
+static struct answer check_rightly(const struct net *net)
+{
+    struct answer counts = check(net);
+    must(counts.refusal != 0 || all_in_range(net), "a net was read that has a number outside its range");
+    must(counts.refusal != 3 || !all_in_range(net), "refusal 3, but every number is in its range");
+    return counts;
+}
+
+/* Whether a net that can be read has an edge longer than the scope document's first limit, 1,000. */
+static int has_long_edge(const struct net *net)
+{
+    struct fields fields;
+    struct place places[MOST_PLACES];
+    find_fields(net, &fields);
+    for (size_t field = 2; field < fields.count; field++) {
+        find_places(net, fields.at[field], fields.at[field + 1], field, places);
+        if (read_number(net, &places[1]) > 1000)
+            return 1;
+    }
+    return 0;
+}
 
 /* A plan that is mostly of the right length with layers that the net has. */
 static size_t make_plan(size_t s, size_t layers, uint8_t *plan)
@@ -1040,7 +1082,7 @@ static void try_net(void)
     else
         chart_entries(below(MOST_STAGES + 3), below(CHART_SHARES + 3));
     make_net(&net);
-    struct answer counts = check(&net);
+    struct answer counts = check_rightly(&net);
     size_t s = counts.results[STAGES];
     nets++;
     readable += counts.refusal == 0;
@@ -1054,6 +1096,7 @@ static void try_net(void)
     hold_against(asked, &found, &judged);
     if (found.refusal == 0) {
         planned++;
+        planned_long += (uint64_t)has_long_edge(&net);
         plan_keeps_promises(&net, &counts, asked, &found, found_plan);
     }
     if (found.refusal == 0 || found.refusal == 12) {
@@ -1194,7 +1237,7 @@ static struct vorphiel_totals plan_each(const struct block *block, uint64_t *wir
     for (size_t at = 0; at < block->len; at += 3 + net.len) {
         net.len = field_len(block->bytes + at) - 3;
         memcpy(net.bytes, block->bytes + at + 3, net.len);
-        struct answer counts = check(&net);
+        struct answer counts = check_rightly(&net);
         struct answer found = plan_net(&net, counts.results[STAGES], asked, plan);
         totals.nets++;
         if (found.refusal != 0) {
@@ -1309,7 +1352,8 @@ static int print_told(void)
 static void print_summary(void)
 {
     printf("seed %" PRIu64 ": %" PRIu64 " calls on %" PRIu64 " nets; ", now.seed, now.number, nets);
-    printf("%.0f%% of these can be read, %.0f%% were planned\n", 100.0 * (double)readable / (double)nets, 100.0 * (double)planned / (double)nets);
+    printf("%.0f%% of these can be read, %.0f%% were planned", 100.0 * (double)readable / (double)nets, 100.0 * (double)planned / (double)nets);
+    printf(", %" PRIu64 " of them with an edge above 1,000\n", planned_long);
     int missing = 0;
     for (int call = 0; call < CALLS; call++)
         missing += print_met(call);

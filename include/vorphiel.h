@@ -7,7 +7,7 @@
  * docs/CUSTOMERS.md says all this at more length, with worked examples. The numbers are those of the scope document, 13 that of the change requests:
  *   1  fewer than three bytes are left where a field is due, or the payload is not all there
  *   2  a tag that is not allowed there, or a length that its kind does not have
- *   3  a number outside its range
+ *   3  a number outside its range (the length of an edge is 0 to 4,000; docs/CUSTOMERS.md has them all)
  *   4  a 256th node after the driver, or a 64th buffer
  *   5  a bad parent: not a lower number, a sink, or one that has two children already
  *   6  a childless node that is no sink

@@ -32,15 +32,17 @@ pub enum Times {
     Loose,
 }
 
-/// A net's size: nodes after the driver, stages, layers.
+/// A net's size: nodes after the driver, stages, layers; and the shortest and the longest that an edge may be.
 #[derive(Clone, Copy)]
 pub struct Size {
     pub nodes: usize,
     pub stages: usize,
     pub layers: usize,
+    pub lengths: (i64, i64),
 }
 
-pub const LIMITS: Size = Size { nodes: 255, stages: 64, layers: 16 };
+/// As many nodes, stages and layers as there may be, and short edges.
+pub const LIMITS: Size = Size { nodes: 255, stages: 64, layers: 16, lengths: (1, 20) };
 
 /// The nets at the limits that the table lists.
 pub fn at_the_limits() -> Vec<Case> {
@@ -53,14 +55,19 @@ pub fn at_the_limits() -> Vec<Case> {
         ("one stage", Shape::Free, one_stage),
         ("few layers", Shape::Free, Size { layers: 3, ..LIMITS }),
     ];
+    shapes.into_iter().flat_map(|(name, shape, size)| family(name, shape, size)).collect()
+}
+
+/// Nets with long edges, up to the limit of length; apart, so that averages over the others stay comparable.
+pub fn long_edges() -> Vec<Case> {
+    let lengths = (1_001, peer::MOST_LENGTH as i64);
+    family("long edges", Shape::Free, Size { lengths, ..LIMITS })
+}
+
+/// Nets of one shape and size, one for each choice of times.
+fn family(name: &str, shape: Shape, size: Size) -> Vec<Case> {
     let times = [("tight", Times::Tight), ("middle", Times::Middle), ("loose", Times::Loose)];
-    let mut cases = vec![];
-    for (shape_name, shape, size) in shapes {
-        for (times_name, times) in times {
-            cases.push(case(&format!("{shape_name}, {times_name}"), shape, size, times));
-        }
-    }
-    cases
+    times.map(|(times_name, times)| case(&format!("{name}, {times_name}"), shape, size, times)).into()
 }
 
 pub fn case(name: &str, shape: Shape, size: Size, times: Times) -> Case {
@@ -85,12 +92,13 @@ struct Growing<'a> {
     nodes: Vec<Node>,
     children: Vec<usize>,
     layers: usize,
+    lengths: (i64, i64),
     random: &'a mut Random,
 }
 
 impl Growing<'_> {
     fn hang(&mut self, parent: usize, kind: Kind) -> usize {
-        let length = self.random.between(1, 20);
+        let length = self.random.between(self.lengths.0, self.lengths.1);
         let costs = (0..self.layers).map(|number| length * layer(number, self.layers).1).collect();
         self.nodes.push(Node { parent, length, costs, kind });
         self.children[parent] += 1;
@@ -127,7 +135,7 @@ impl Growing<'_> {
 /// Buffers by the shape, then sinks below what is childless, then Steiner points until the nodes are as many as asked.
 fn grown(shape: Shape, size: Size, random: &mut Random) -> Draft {
     let layers: Vec<(i64, i64)> = (0..size.layers).map(|number| (layer(number, size.layers).0, 10)).collect();
-    let mut tree = Growing { nodes: vec![], children: vec![0], layers: layers.len(), random };
+    let mut tree = Growing { nodes: vec![], children: vec![0], layers: layers.len(), lengths: size.lengths, random };
     let mut ends = vec![0];
     for stage in 1..size.stages {
         let parent = match shape {

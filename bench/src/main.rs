@@ -83,7 +83,9 @@ fn main() {
 
 /// What is asked for of the calls on a net, and then of the blocks.
 fn measure_calls(asked: &[&str]) {
-    let (cases, growing, calls) = (families::at_the_limits(), growing(), calls());
+    let (mut cases, growing, calls) = (families::at_the_limits(), growing(), calls());
+    let short = cases.len();
+    cases.extend(families::long_edges());
     let at_limits = cases.iter().flat_map(|case| calls.iter().map(move |&call| Job::new(case, call)));
     let mut jobs: Vec<Job> = at_limits.collect();
     jobs.extend(growing.iter().map(|(_, _, case, call)| Job::new(case, *call)));
@@ -103,10 +105,13 @@ fn measure_calls(asked: &[&str]) {
     let counted = measure::instructions(&["--once"], jobs.len(), &profiled(&cases, &calls));
     let measured = beside_times(counted.as_ref(), &mut jobs);
     let (limits, grown) = measured.split_at(cases.len() * calls.len());
-    report::ratios(&cases, &calls, limits);
+    let (of_short, of_long) = limits.split_at(short * calls.len());
+    report::ratios(&cases[..short], &calls, of_short);
+    report::ratios(&cases[short..], &calls, of_long);
     report::stacks(&calls, &stacks);
     report::profiles(counted.map_or(vec![], |counted| counted.1));
     report::growth(&growing, grown);
-    report::excess(&cases, &SHARES);
+    // Not with long edges: share 0 would take a table of gigabytes, as they cost millions.
+    report::excess(&cases[..short], &SHARES);
     measure_blocks();
 }

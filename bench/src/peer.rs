@@ -15,6 +15,7 @@ const MOST_NODES: usize = 255;
 const MOST_STAGES: usize = 64;
 const MOST_K: u64 = 28;
 const MOST_SHARE: u64 = 1_000;
+pub const MOST_LENGTH: u64 = 4_000;
 const MOST_TIME: i64 = 1_000_000_000_000_000;
 /// Before every time and after every time that is compared.
 const NEVER: i64 = i64::MIN / 2;
@@ -134,7 +135,7 @@ fn read(bytes: &[u8]) -> Result<Net<'_>, Refusal> {
             return Err(Refusal(4));
         }
         let (parent, length) = (u16_at(bytes, start) as usize, u16_at(bytes, start + 2));
-        ranged(length <= 1_000)?;
+        ranged(length <= MOST_LENGTH)?;
         let costs = &bytes[start + 4..start + shared];
         let in_range = |cost: &[u8]| (1..=1_000_000).contains(&u32::from_be_bytes(cost.try_into().unwrap()));
         ranged(costs.chunks_exact(4).all(in_range))?;

@@ -11,6 +11,12 @@ pub fn hex(bytes: &[u8]) -> String {
     bytes.iter().map(|byte| format!("{byte:02x}")).collect()
 }
 
+/// Bytes from hexadecimal digits.
+pub fn from_hex(text: &str) -> Vec<u8> {
+    let digits: Vec<char> = text.chars().filter(|c| !c.is_whitespace()).collect();
+    digits.chunks(2).map(|two| u8::from_str_radix(&two.iter().collect::<String>(), 16).expect("hexadecimal")).collect()
+}
+
 /// The first call that was answered wrongly.
 pub struct Failure {
     /// The call in one line.
@@ -88,7 +94,7 @@ impl Case {
     }
 
     /// What check answers.
-    fn checked(&self) -> Checked {
+    pub fn checked(&self) -> Checked {
         match &self.read {
             Err(refusal) => Checked { refusal: *refusal, ..Default::default() },
             Ok(net) => plain::check_net(net),
@@ -96,7 +102,7 @@ impl Case {
     }
 
     /// What judge answers.
-    fn judged(&self, plan: &[u8]) -> Judged {
+    pub fn judged(&self, plan: &[u8]) -> Judged {
         match &self.read {
             Err(refusal) => Judged { refusal: *refusal, ..Default::default() },
             Ok(net) => plain::judge_net(net, plan),
@@ -140,12 +146,29 @@ pub struct Left {
     pub buffer: Vec<u8>,
 }
 
+impl Left {
+    /// With an answer and its plan, where there is one: "The plan's s bytes open the buffer; later bytes keep their
+    /// values. The table is all zero after acceptance and after 12, and unchanged after 1 to 11."
+    pub fn beside(answer: Planned, plan: &[u8], asked: &Asked) -> Left {
+        let (mut table, mut buffer) = (asked.table.clone(), asked.buffer.clone());
+        buffer[..plan.len()].copy_from_slice(plan);
+        if [0, 12].contains(&answer.refusal) {
+            table.fill(0);
+        }
+        Left { answer, table, buffer }
+    }
+}
+
 impl Asked {
-    /// As 01's program plans a net, with nothing in table and buffer.
+    /// With nothing in table and buffer.
+    pub fn empty(p: u64, q: u64, table_len: usize, buffer_len: usize) -> Asked {
+        Asked { p, q, table: vec![0; table_len], buffer: vec![0; buffer_len], garbage: None }
+    }
+
+    /// As 01's program plans a net.
     pub fn by_program() -> Asked {
         let (p, q) = plain::PROGRAM_SHARE;
-        let (table, buffer) = (vec![0; plain::PROGRAM_TABLE], vec![0; plain::PROGRAM_BUFFER]);
-        Asked { p, q, table, buffer, garbage: None }
+        Asked::empty(p, q, plain::PROGRAM_TABLE, plain::PROGRAM_BUFFER)
     }
 
     fn words(&self) -> String {
@@ -198,13 +221,13 @@ pub fn faults(case: &Case, asked: &Asked, expected: &Left, found: &Left) -> Vec<
     faults
 }
 
-/// 0 beside a refusal, else between its two bounds.
+/// 0 beside a refusal, else between its two bounds; where nothing was searched, the one that is expected.
 fn floor_permitted(case: &Case, asked: &Asked, expected: &Left, floor: u64) -> bool {
-    if expected.answer.refusal != 0 {
-        return floor == 0;
+    match case.search() {
+        _ if expected.answer.refusal != 0 => floor == 0,
+        None => floor == expected.answer.floor,
+        Some(search) => plain::permitted_floor(asked.p, asked.q, expected.answer.cost, floor, search.known_cost()),
     }
-    let cheapest = case.search().expect("a plan that meets timing").known_cost();
-    plain::permitted_floor(asked.p, asked.q, expected.answer.cost, floor, cheapest)
 }
 
 /// The report of a planning call: parameters, expected, found.
@@ -214,7 +237,7 @@ fn plan_details(case: &Case, asked: &Asked, expected: &Left, found: &Left) -> St
         format!("refusal {refusal} cost {cost} slack {slack} k {k} floor {floor} buffer {:?}", left.buffer)
     };
     let floors = match case.search().filter(|_| expected.answer.refusal == 0) {
-        None => String::from("0"),
+        None => expected.answer.floor.to_string(),
         Some(search) => {
             let (Asked { p, q, .. }, cost) = (asked, expected.answer.cost);
             format!("from {q} x {cost} / ({q} + {p}) to {}", search.known_cost())
@@ -285,7 +308,7 @@ impl Comparison {
         self.plan_gives(case, &again, &case.planned(&again))
     }
 
-    /// Plan, against a given answer. The floor is held to its two bounds.
+    /// Plan, against a given answer. The floor is held to its two bounds, if the case was searched.
     pub fn plan_gives(&mut self, case: &Case, asked: &Asked, expected: &Left) -> Outcome {
         let call = || format!("plan, {}, {}", case.name, asked.words());
         self.say(|| format!("{}\n  {}", call(), asked.contents()), &case.bytes);

@@ -10,4 +10,5 @@ pub mod nets;
 pub mod plain;
 pub mod rows;
 pub mod runs;
+pub mod stored;
 pub mod wrong;

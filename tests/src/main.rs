@@ -3,8 +3,10 @@
 //!     vorphiel-tests                  a fixed set of calls
 //!     vorphiel-tests SEED [COUNT]     other random nets, more of them
 //!     vorphiel-tests --self [SEED [COUNT]]
-//!                                     no library: the plain search, the search by fronts and a third one, compared
+//!                                     no library: the plain search, the search by fronts and a third one, compared with
+//!                                     each other and with the stored answers
 //!     vorphiel-tests --mutants        no library: wrong planners in its place; says which call exposed each
+//!     vorphiel-tests --answers FILE   stored answers (see `stored`) with those of the library in their place
 //!     vorphiel-tests --blocks DIR COUNT
 //!                                     no library: writes blocks for the program block_report, each with its text
 //!     --trace before these            says each call on standard error before it is made: if the library breaks off or
@@ -13,11 +15,11 @@
 use std::collections::BTreeSet;
 use std::process::ExitCode;
 use std::{fs, io};
-use vorphiel_tests::compare::{hex, Comparison, Failure};
-use vorphiel_tests::host::{linked, Interface};
+use vorphiel_tests::compare::{hex, Comparison, Failure, Outcome};
+use vorphiel_tests::host::{linked, Host, Interface};
 use vorphiel_tests::plain::{self, Search};
 use vorphiel_tests::wrong::{self, Mistake};
-use vorphiel_tests::{by_front, nets, runs};
+use vorphiel_tests::{by_front, nets, runs, stored};
 
 /// Without arguments: this seed and this many random nets; fewer for wrong planners, which must be exposed soon.
 const SEED: u64 = 1;
@@ -55,17 +57,27 @@ fn main() -> ExitCode {
     if let Some((folder, count)) = blocks_asked(&arguments) {
         return written(write_blocks(folder, count));
     }
+    if let [flag, file] = &arguments[..] {
+        if flag == "--answers" {
+            return ended(print_answers(file));
+        }
+    }
     let Some(options) = options(arguments) else {
-        eprintln!("usage: vorphiel-tests [--trace] [--mutants | --self] [SEED [COUNT]] | --blocks DIR COUNT");
+        eprintln!(
+            "usage: vorphiel-tests [--trace] [--mutants | --self] [SEED [COUNT]] | --blocks DIR COUNT | --answers FILE"
+        );
         return ExitCode::from(2);
     };
-    let well = if options.mutants {
+    ended(if options.mutants {
         all_exposed(&options)
     } else if options.own {
         compare_ourselves(&options)
     } else {
         compare_library(&options)
-    };
+    })
+}
+
+fn ended(well: bool) -> ExitCode {
     if well {
         ExitCode::SUCCESS
     } else {
@@ -113,18 +125,35 @@ fn written(met: io::Result<BTreeSet<String>>) -> ExitCode {
     let due: BTreeSet<String> =
         ["nets", "planned", "cost"].map(String::from).into_iter().chain(numbers).chain(layers).collect();
     println!("{} kinds of line met of {} in the texts of blocks", met.len(), due.len());
-    if met == due {
-        ExitCode::SUCCESS
-    } else {
+    if met != due {
         println!("not met: {:?}; not due: {:?}", &due - &met, &met - &due);
-        ExitCode::FAILURE
     }
+    ended(met == due)
 }
 
+/// --answers FILE.
+fn print_answers(file: &str) -> bool {
+    match (linked(), fs::read_to_string(file)) {
+        (Some(library), Ok(text)) => {
+            print!("{}", stored::answered_by(&mut Host::new(library), &text));
+            return true;
+        }
+        (None, _) => eprintln!("vorphiel-tests: no library is linked"),
+        (_, Err(error)) => eprintln!("vorphiel-tests: {file}: {error}"),
+    }
+    false
+}
+
+/// A set of calls.
+type Set = fn(&mut Comparison, &Options) -> Outcome;
+
+const ALL: Set = |comparison, options| runs::all(comparison, options.seed, options.count);
+const STORED: Set = |comparison, _| runs::stored::run(comparison);
+
 /// One run over an implementation: how many calls passed, and the first that did not.
-fn run(interface: Interface, options: &Options) -> (u64, Option<Failure>) {
+fn run(interface: Interface, set: Set, options: &Options) -> (u64, Option<Failure>) {
     let mut comparison = Comparison::new(interface, options.trace);
-    let outcome = runs::all(&mut comparison, options.seed, options.count);
+    let outcome = set(&mut comparison, options);
     (comparison.passed, outcome.err())
 }
 
@@ -144,16 +173,19 @@ fn compare_library(options: &Options) -> bool {
         println!("no library is linked: --self and --mutants can be run");
         return false;
     };
-    told(run(library, options), options)
+    told(run(library, ALL, options), options)
 }
 
-/// The search by fronts against the plain search; a third planner, by a table of budgets, against both.
+/// The search by fronts against the plain search; stored answers against both; a third planner, by a table of budgets,
+/// against all of them.
 fn compare_ourselves(options: &Options) -> bool {
     print!("fronts against the plain search: ");
     let Some(met) = fronts_agree(options) else { return false };
     println!("{} nets agree, {met} of them have a plan that meets timing", options.count);
-    print!("a table of budgets against both: ");
-    told(run(wrong::interface(Mistake::None), options), options)
+    let stored = runs::stored::agreement();
+    println!("stored answers against both: {}", stored.as_ref().unwrap_or_else(|fault| fault));
+    print!("a table of budgets against all: ");
+    told(run(wrong::interface(Mistake::None), ALL, options), options) && stored.is_ok()
 }
 
 /// V(k) and the first plan for every k, by both searches, whole and stopped early. How many nets can be met.
@@ -204,22 +236,28 @@ fn columns_bounded(each: &plain::Enumeration, s: usize) -> bool {
 
 /// Each wrong planner must be exposed, and the one without a mistake must not.
 fn all_exposed(options: &Options) -> bool {
+    let whole = exposed("", Mistake::all(), ALL, options);
+    let stored = exposed("by stored answers alone, ", Mistake::on_stored(), STORED, options);
+    print!("no mistake: ");
+    told(run(wrong::interface(Mistake::None), ALL, options), options) && whole && stored
+}
+
+/// Does a set of calls expose each of these?
+fn exposed(by: &str, mistakes: Vec<Mistake>, set: Set, options: &Options) -> bool {
     let (mut exposed, mut missed) = (0, 0);
-    for mistake in Mistake::all() {
-        let (passed, failure) = run(wrong::interface(mistake), options);
+    for mistake in mistakes {
+        let (passed, failure) = run(wrong::interface(mistake), set, options);
         match failure {
             Some(failure) => {
-                println!("exposed: {}: call {}: {}", mistake.words(), passed + 1, failure.call);
+                println!("{by}exposed: {}: call {}: {}", mistake.words(), passed + 1, failure.call);
                 exposed += 1;
             }
             None => {
-                println!("NOT EXPOSED: {}: {passed} calls passed", mistake.words());
+                println!("{by}NOT EXPOSED: {}: {passed} calls passed", mistake.words());
                 missed += 1;
             }
         }
     }
-    print!("no mistake: ");
-    let right = told(run(wrong::interface(Mistake::None), options), options);
-    println!("{exposed} wrong planners exposed, {missed} not");
-    right && missed == 0
+    println!("{by}{exposed} wrong planners exposed, {missed} not");
+    missed == 0
 }

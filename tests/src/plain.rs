@@ -102,10 +102,11 @@ pub fn all_plans(net: &Net) -> Vec<Vec<u8>> {
 // ------------------------------------------------------------------------------------------------
 
 /// "Unit values are 1 to 1,000; layers 1 to 16; lengths 0 to 1,000; costs 1 to 1,000,000; gate resistance
-/// and input capacitance 0 to 100,000; intrinsic delay 0 to 1,000,000,000; times from minus 10^15 to 10^15."
+/// and input capacitance 0 to 100,000; intrinsic delay 0 to 1,000,000,000; times from minus 10^15 to 10^15." But (02,
+/// wish 3) "Lengths may now be 0 to 4,000."
 type Range = (i128, i128);
 const UNIT: Range = (1, 1_000);
-const LENGTH: Range = (0, 1_000);
+const LENGTH: Range = (0, 4_000);
 const COST: Range = (1, 1_000_000);
 const RESISTANCE: Range = (0, 100_000);
 const CAPACITANCE: Range = (0, 100_000);

@@ -1,9 +1,9 @@
-//! The rows of 01, "Nets to try", and the example of 02's report, with the numbers that stand there. The plain search
-//! must give each of them too.
+//! The rows of 01, "Nets to try", and the examples of 02, with the numbers that stand there. The plain search must give
+//! each of them too.
 
 use crate::block::Block;
 use crate::c_calls::Totals;
-use crate::compare::{faults, Asked, Case, Comparison, Left, Outcome};
+use crate::compare::{faults, from_hex, Asked, Case, Comparison, Left, Outcome};
 use crate::nets::{block, line, net_a, net_b};
 use crate::plain::{self, Checked, Judged, Planned};
 
@@ -14,26 +14,23 @@ const NET_A: &str = "01 0008 00040001 00010001 02 0010 00000001 00000000 0000000
 /// The slack of a line of 63 buffers on layer 0: 16 ticks are spent in stage 0, 17 in each of the others.
 const SLACK_63: i64 = 1_000_000_000_000_000 - 16 - 63 * 17;
 
-/// Bytes from hexadecimal digits.
-fn from_hex(text: &str) -> Vec<u8> {
-    let digits: Vec<char> = text.chars().filter(|c| !c.is_whitespace()).collect();
-    digits.chunks(2).map(|two| u8::from_str_radix(&two.iter().collect::<String>(), 16).expect("hexadecimal")).collect()
-}
-
 /// All rows.
 pub fn run(c: &mut Comparison) -> Outcome {
     reading_rows(c)?;
     judging_rows(c)?;
     planning_rows(c)?;
+    length_rows(c)?;
     report_rows(c)
 }
 
+fn reading_row(c: &mut Comparison, name: &str, bytes: &[u8], [refusal, nodes, stages, layers]: [u64; 4]) -> Outcome {
+    let expected = Checked { refusal: refusal as u8, nodes, stages, layers };
+    assert_eq!(plain::check(bytes), expected, "{name}");
+    c.check_gives(&Case::new(name, bytes), expected)
+}
+
 fn reading_rows(c: &mut Comparison) -> Outcome {
-    let mut row = |name: &str, bytes: &[u8], [refusal, nodes, stages, layers]: [u64; 4]| {
-        let expected = Checked { refusal: refusal as u8, nodes, stages, layers };
-        assert_eq!(plain::check(bytes), expected, "{name}");
-        c.check_gives(&Case::new(name, bytes), expected)
-    };
+    let mut row = |name: &str, bytes: &[u8], counts: [u64; 4]| reading_row(c, name, bytes, counts);
     assert_eq!(from_hex(NET_A), net_a(830).bytes());
     row("row: A", &from_hex(NET_A), [0, 2, 1, 2])?;
     row("row: B", &net_b().bytes(), [0, 3, 2, 2])?;
@@ -42,12 +39,15 @@ fn reading_rows(c: &mut Comparison) -> Outcome {
     row("row: 64 buffers give 4", &line(64, 0).bytes(), [4, 0, 0, 0])
 }
 
+fn judging_row(c: &mut Comparison, name: &str, bytes: &[u8], plan: &[u8], expected: Judged) -> Outcome {
+    assert_eq!(plain::judge(bytes, plan), expected, "{name}");
+    c.judge_gives(&Case::new(name, bytes), plan, expected)
+}
+
 fn judging_rows(c: &mut Comparison) -> Outcome {
     let (a, b) = (from_hex(NET_A), net_b().bytes());
     let mut row = |name: &str, bytes: &[u8], plan: &[u8], refusal: u8, cost: u64, slack: i64| {
-        let expected = Judged { refusal, cost, slack };
-        assert_eq!(plain::judge(bytes, plan), expected, "{name}");
-        c.judge_gives(&Case::new(name, bytes), plan, expected)
+        judging_row(c, name, bytes, plan, Judged { refusal, cost, slack })
     };
     row("row †: A judged [0]", &a, &[0], 0, 10, 0)?;
     row("row †: A judged [1]", &a, &[1], 0, 20, 600)?;
@@ -68,18 +68,11 @@ enum Says<'a> {
 impl Says<'_> {
     /// With it, what is in table and buffer afterwards.
     fn left(&self, asked: &Asked) -> Left {
-        let (mut table, mut buffer) = (asked.table.clone(), asked.buffer.clone());
-        let answer = match *self {
-            Says::Refused(refusal) => Planned { refusal, ..Default::default() },
-            Says::Plan(plan, cost, slack, k) => {
-                buffer[..plan.len()].copy_from_slice(plan);
-                Planned { refusal: 0, cost, slack, k, floor: 0 }
-            }
+        let (answer, plan) = match *self {
+            Says::Refused(refusal) => (Planned { refusal, ..Default::default() }, &[][..]),
+            Says::Plan(plan, cost, slack, k) => (Planned { refusal: 0, cost, slack, k, floor: 0 }, plan),
         };
-        if [0, 12].contains(&answer.refusal) {
-            table.fill(0);
-        }
-        Left { answer, table, buffer }
+        Left::beside(answer, plan, asked)
     }
 }
 
@@ -120,6 +113,29 @@ fn planning_rows(c: &mut Comparison) -> Outcome {
     planning_row(c, ("row: a slack of -1 misses", &a(829)), (1, 1_000), (8_192, 1), Plan(&[1], 20, 599, 0))?;
     planning_row(c, ("row: a slack of 0 meets", &a(830)), (0, 1), (8_192, 1), Plan(&[0], 10, 0, 0))?;
     planning_row(c, ("row: q = 0: 9", &b), (1, 0), (8_192, 64), Refused(9))
+}
+
+/// Net A with another length, required when a length of 4,000 is just met on layer 0: "4,000 is read, 4,001 gives
+/// refusal 3" (02, wish 3), in each of the three calls. The slack is that on layer 0.
+fn length_rows(c: &mut Comparison) -> Outcome {
+    let with_length = |length: i64| {
+        let mut draft = net_a(64_168_010);
+        draft.nodes[0].length = length;
+        (format!("row: length {length}"), draft.bytes())
+    };
+    for (length, slack) in [(1_000, 60_126_000), (1_001, 60_117_954), (4_000, 0)] {
+        let (name, bytes) = with_length(length);
+        reading_row(c, &name, &bytes, [0, 2, 1, 2])?;
+        judging_row(c, &name, &bytes, &[0], Judged { refusal: 0, cost: 10, slack })?;
+        planning_row(c, (&name, &bytes), (0, 1), (8_192, 64), Says::Plan(&[0], 10, slack, 0))?;
+    }
+    for length in [4_001, 4_095, 4_096, 8_191, 65_535] {
+        let (name, bytes) = with_length(length);
+        reading_row(c, &name, &bytes, [3, 0, 0, 0])?;
+        judging_row(c, &name, &bytes, &[0], Judged { refusal: 3, ..Default::default() })?;
+        planning_row(c, (&name, &bytes), (0, 1), (8_192, 64), Says::Refused(3))?;
+    }
+    Ok(())
 }
 
 /// The report's example in 02, the block of no nets, a net of no bytes, and 13: the totals, and every byte of the text.

@@ -15,9 +15,9 @@ use Rattle.laws.specs.Basic.{bit, from, all, keep, within}
 use Rattle.laws.specs.Booleans.{and-left, and-right, or-right, same-or, bit-le, and-three, within-true}
 use Rattle.laws.specs.Lists.{length-from, length-more, last-is, others-are, keep-more, all-at, some-passes, count-by-number}
 use Rattle.rules.specs.Tree.{Node, Net, isSink, isBuffer, noNode, node, at, edges, childrenOf, roots, stages, layerCount}
-use Rattle.rules.specs.Bytes.{layersTag, maxLayers, maxNodes, maxStages, maxChildren, isLayer, isDriver, isKind, isCosts, isNode}
+use Rattle.rules.specs.Bytes.{layersTag, maxLayers, maxLength, maxNodes, maxStages, maxChildren, isLayer, isDriver, isKind, isCosts, isNode}
 use Rattle.rules.specs.Bytes.{Field, fieldAt, next, dueLayers, dueDriver, dueNode, layerAt, layersAt, driverAt, nodeAt}
-use Rattle.rules.specs.Reading.{Answer, accept, _>>=_, field, children, buffers, hasRoom, isParent, nodeField, nodesFrom, isWhole, read}
+use Rattle.rules.specs.Reading.{Answer, accept, _>>=_, field, children, buffers, hasRoom, isParent, nodeField, nodesFrom, isWhole, readTo, read}
 use Rattle.facts.specs.Answers.{not-refused, accept-injective, then-accepted, unless-accepted}
 
 -- Node j is a child of node i.
@@ -37,7 +37,7 @@ pub record Accepted (n : Net) : Type 0 where
   -- Every node but a sink has a child.
   pub has-child : (i : ℕ) → i ≤ length (n .nodes) → isSink (at n i .kind) ≡ false → (j : ℕ) × ChildOf n i j
   -- Every number is in its range. (Where there is no node j, its numbers count as 0.)
-  pub node-in-range : (j : ℕ) → isNode (at n j) ≡ true
+  pub node-in-range : (j : ℕ) → isNode maxLength (at n j) ≡ true
   pub layers-in-range : all (map isLayer (n .layers)) ≡ true
   pub driver-in-range : isDriver (n .driver) ≡ true
   -- Layers 1 to 16, at most 255 nodes after the driver, at most 64 stages.
@@ -70,7 +70,7 @@ record NodesRead (ns : List Node) : Type 0 where
   parent-lower : (j : ℕ) → 1 ≤ j → node ns j .parent < j
   parent-no-sink : (j : ℕ) → 1 ≤ j → j ≤ length ns → isSink (node ns (node ns j .parent) .kind) ≡ false
   few-children : (i : ℕ) → children ns i ≤ maxChildren
-  in-range : (j : ℕ) → isNode (node ns j) ≡ true
+  in-range : (j : ℕ) → isNode maxLength (node ns j) ≡ true
   few-nodes : length ns ≤ maxNodes
   few-buffers : buffers ns ≤ maxStages - 1
 
@@ -89,21 +89,22 @@ none-read = record {
     lower zero h = absurd (omega arith)
     lower (suc j) h = omega arith
 
-    range : (j : ℕ) → isNode (getD (noNode ∷ []) j noNode) ≡ true
+    range : (j : ℕ) → isNode maxLength (getD (noNode ∷ []) j noNode) ≡ true
     range zero = refl
     range (suc j) = refl
 
-node-last : (ns : List Node) (m : Node) → node (ns ++ (m ∷ [])) (suc (length ns)) ≡ m
+pub node-last : (ns : List Node) (m : Node) → node (ns ++ (m ∷ [])) (suc (length ns)) ≡ m
 unfolding node
 node-last ns m = last-is ns m noNode
 
-node-other : (ns : List Node) (m : Node) (j : ℕ) → (j ≡ suc (length ns) → ⊥) → node (ns ++ (m ∷ [])) j ≡ node ns j
+pub node-other : (ns : List Node) (m : Node) (j : ℕ) → (j ≡ suc (length ns) → ⊥) → node (ns ++ (m ∷ [])) j ≡ node ns j
 unfolding node
 node-other ns m zero h = refl
 node-other ns m (suc j) h = others-are ns m noNode j (λ e. h (ap suc e))
 
 -- One node more, which has room, is in range and has a good parent.
-module _ {ns : List Node} (R : NodesRead ns) (m : Node) (room : hasRoom ns m ≡ true) (range : isNode m ≡ true) (parent : isParent ns (m .parent) ≡ true) where
+module _ {ns : List Node} (R : NodesRead ns) (m : Node) (room : hasRoom ns m ≡ true) (range : isNode maxLength m ≡ true)
+    (parent : isParent ns (m .parent) ≡ true) where
   parent-good : (m .parent ≤ length ns) × (isSink (node ns (m .parent) .kind) ≡ false) × (children ns (m .parent) < maxChildren)
   unfolding isParent
   parent-good =
@@ -156,27 +157,27 @@ module _ {ns : List Node} (R : NodesRead ns) (m : Node) (room : hasRoom ns m ≡
           let inside : j ≤ length ns = omega (arith, length-more ns m) in
           rw (node-other ns m j e) (before (node ns j .parent) (omega (arith, R .parent-lower j h)) (R .parent-no-sink j h inside))
 
-      ranged : (j : ℕ) → (j ≡ suc (length ns)) ⊎ (j ≡ suc (length ns) → ⊥) → isNode (node (ns ++ (m ∷ [])) j) ≡ true
+      ranged : (j : ℕ) → (j ≡ suc (length ns)) ⊎ (j ≡ suc (length ns) → ⊥) → isNode maxLength (node (ns ++ (m ∷ [])) j) ≡ true
       ranged j (inl e) = rw e (rw (node-last ns m) range)
       ranged j (inr e) = rw (node-other ns m j e) (R .in-range j)
 
-nodes-read : (k : ℕ) (bs : List ℕ) (L : ℕ) (ns : List Node) (i : ℕ) {ms : List Node} → NodesRead ns → nodesFrom k bs L ns i ≡ accept ms → NodesRead ms
+nodes-read : (k : ℕ) (bs : List ℕ) (L : ℕ) (ns : List Node) (i : ℕ) {ms : List Node} → NodesRead ns → nodesFrom maxLength k bs L ns i ≡ accept ms → NodesRead ms
 unfolding nodesFrom nodeField
 nodes-read zero bs L ns i R e = not-refused e
 nodes-read (suc k) bs L ns i {ms} R e = go (leb (length bs) i) e (λ f. nodes-read k bs L (ns ++ (nodeAt bs L f ∷ [])) (next f))
   where
     more : Field → Answer (List Node)
-    more f = nodesFrom k bs L (ns ++ (nodeAt bs L f ∷ [])) (next f)
+    more f = nodesFrom maxLength k bs L (ns ++ (nodeAt bs L f ∷ [])) (next f)
 
-    go : (b : Bool) → elim b [ true ↦ accept ns | false ↦ nodeField bs L ns i >>= more ] ≡ accept ms
+    go : (b : Bool) → elim b [ true ↦ accept ns | false ↦ nodeField maxLength bs L ns i >>= more ] ≡ accept ms
         → ((f : Field) → NodesRead (ns ++ (nodeAt bs L f ∷ [])) → more f ≡ accept ms → NodesRead ms) → NodesRead ms
     go true e r = rw (← accept-injective e) R
     go false e r =
-        let (f, a, b) = then-accepted (nodeField bs L ns i) more e in
+        let (f, a, b) = then-accepted (nodeField maxLength bs L ns i) more e in
         let (g, c, d) = then-accepted (field (dueNode L) bs i) _ a in
         let m = nodeAt bs L g in
         let (room, d1) = unless-accepted 4 (hasRoom ns m) _ d in
-        let (range, d2) = unless-accepted 3 (isNode m) _ d1 in
+        let (range, d2) = unless-accepted 3 (isNode maxLength m) _ d1 in
         let (parent, d3) = unless-accepted 5 (isParent ns (m .parent)) _ d2 in
         r f (rw (← accept-injective d3) (more-read R m room range parent)) b
 
@@ -207,13 +208,13 @@ layers-read bs f a =
 
 -- Whatever net reading accepts has these properties.
 pub accepted : (bs : List ℕ) (n : Net) → read bs ≡ accept n → Accepted n
-unfolding read layerCount
+unfolding read readTo layerCount
 accepted bs n e =
     let (f, a1, b1) = then-accepted (field dueLayers bs 0) _ e in
     let (layers, b2) = unless-accepted 3 (all (map isLayer (layersAt bs f))) _ b1 in
     let (g, a2, b3) = then-accepted (field dueDriver bs (next f)) _ b2 in
     let (driver, b4) = unless-accepted 3 (isDriver (driverAt bs (g .start))) _ b3 in
-    let (ns, a3, b5) = then-accepted (nodesFrom (maxNodes + 1) bs (f .size / 4) [] (next g)) _ b4 in
+    let (ns, a3, b5) = then-accepted (nodesFrom maxLength (maxNodes + 1) bs (f .size / 4) [] (next g)) _ b4 in
     let (whole, b6) = unless-accepted 6 (isWhole ns) _ b5 in
     let R = nodes-read (maxNodes + 1) bs (f .size / 4) [] (next g) none-read a3 in
     rw (← accept-injective b6) (all-of f g ns (layers-read bs f a1) layers driver R whole)

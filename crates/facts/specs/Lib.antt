@@ -7,7 +7,9 @@ pub mod Ranges
 pub mod Loads
 pub mod Bounds
 pub mod Fits
+pub mod Room
 pub mod Costs
 pub mod Refusals
+pub mod Lengths
 pub mod Chart
 pub mod Block

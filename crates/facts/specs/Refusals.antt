@@ -8,8 +8,8 @@ use lib.Dec.{leb}
 use lib.ListN.{length}
 use Rattle.laws.specs.Basic.{all}
 use Rattle.rules.specs.Tree.{Node}
-use Rattle.rules.specs.Bytes.{Field, maxNodes, fieldAt, next, dueLayers, dueDriver, dueNode, layersAt, isLayer, driverAt, isDriver, nodeAt, isNode}
-use Rattle.rules.specs.Reading.{Answer, accept, refuse, _>>=_, _>>_, _unless_, field, hasRoom, isParent, nodeField, nodesFrom, isWhole, read}
+use Rattle.rules.specs.Bytes.{Field, maxLength, maxNodes, fieldAt, next, dueLayers, dueDriver, dueNode, layersAt, isLayer, driverAt, isDriver, nodeAt, isNode}
+use Rattle.rules.specs.Reading.{Answer, accept, refuse, _>>=_, _>>_, _unless_, field, hasRoom, isParent, nodeField, nodesFrom, isWhole, readTo, read}
 use Rattle.facts.specs.Answers.{not-refused, refuse-injective}
 
 -- An answer whose refusal, if it is one, is a number from 1 to `most`.
@@ -41,31 +41,32 @@ field-low due bs i =
     (unless-numbered 2 (due (fieldAt bs i .tag) (fieldAt bs i .size)) _ (omega arith) (omega arith)
     (unless-numbered 1 (leb (next (fieldAt bs i)) (length bs)) _ (omega arith) (omega arith) (accept-numbered 6 (fieldAt bs i))))
 
-node-low : (bs : List ℕ) (L : ℕ) (ns : List Node) (i : ℕ) → Numbered 6 (nodeField bs L ns i)
+node-low : (most : ℕ) (bs : List ℕ) (L : ℕ) (ns : List Node) (i : ℕ) → Numbered 6 (nodeField most bs L ns i)
 unfolding nodeField
-node-low bs L ns i =
+node-low most bs L ns i =
     then-numbered (field (dueNode L) bs i) _ (field-low (dueNode L) bs i) (λ f.
     unless-numbered 4 (hasRoom ns (nodeAt bs L f)) _ (omega arith) (omega arith)
-    (unless-numbered 3 (isNode (nodeAt bs L f)) _ (omega arith) (omega arith)
+    (unless-numbered 3 (isNode most (nodeAt bs L f)) _ (omega arith) (omega arith)
     (unless-numbered 5 (isParent ns (nodeAt bs L f .parent)) _ (omega arith) (omega arith) (accept-numbered 6 f))))
 
-nodes-low : (k : ℕ) (bs : List ℕ) (L : ℕ) (ns : List Node) (i : ℕ) → Numbered 6 (nodesFrom k bs L ns i)
+nodes-low : (most k : ℕ) (bs : List ℕ) (L : ℕ) (ns : List Node) (i : ℕ) → Numbered 6 (nodesFrom most k bs L ns i)
 unfolding nodesFrom
-nodes-low zero bs L ns i = refuse-numbered 6 4 (omega arith) (omega arith)
-nodes-low (suc k) bs L ns i = go (leb (length bs) i) (λ f. nodes-low k bs L (ns ++ (nodeAt bs L f ∷ [])) (next f))
+nodes-low most zero bs L ns i = refuse-numbered 6 4 (omega arith) (omega arith)
+nodes-low most (suc k) bs L ns i = go (leb (length bs) i) (λ f. nodes-low most k bs L (ns ++ (nodeAt bs L f ∷ [])) (next f))
   where
-    go : (b : Bool) → ((f : Field) → Numbered 6 (nodesFrom k bs L (ns ++ (nodeAt bs L f ∷ [])) (next f)))
-        → Numbered {A = List Node} 6 (elim b [ true ↦ accept ns | false ↦ nodeField bs L ns i >>= λ f. nodesFrom k bs L (ns ++ (nodeAt bs L f ∷ [])) (next f) ])
+    go : (b : Bool) → ((f : Field) → Numbered 6 (nodesFrom most k bs L (ns ++ (nodeAt bs L f ∷ [])) (next f)))
+        → Numbered {A = List Node} 6
+        (elim b [ true ↦ accept ns | false ↦ nodeField most bs L ns i >>= λ f. nodesFrom most k bs L (ns ++ (nodeAt bs L f ∷ [])) (next f) ])
     go true r = accept-numbered 6 ns
-    go false r = then-numbered (nodeField bs L ns i) _ (node-low bs L ns i) r
+    go false r = then-numbered (nodeField most bs L ns i) _ (node-low most bs L ns i) r
 
 -- So reading refuses with 1 to 6.
 pub read-numbered : (bs : List ℕ) → Numbered 6 (read bs)
-unfolding read
+unfolding read readTo
 read-numbered bs =
     then-numbered (field dueLayers bs 0) _ (field-low dueLayers bs 0) (λ f.
     unless-numbered 3 (all (map isLayer (layersAt bs f))) _ (omega arith) (omega arith)
     (then-numbered (field dueDriver bs (next f)) _ (field-low dueDriver bs (next f)) (λ g.
     unless-numbered 3 (isDriver (driverAt bs (g .start))) _ (omega arith) (omega arith)
-    (then-numbered (nodesFrom (maxNodes + 1) bs (f .size / 4) [] (next g)) _ (nodes-low (maxNodes + 1) bs (f .size / 4) [] (next g)) (λ ns.
+    (then-numbered (nodesFrom maxLength (maxNodes + 1) bs (f .size / 4) [] (next g)) _ (nodes-low maxLength (maxNodes + 1) bs (f .size / 4) [] (next g)) (λ ns.
     unless-numbered 6 (isWhole ns) _ (omega arith) (omega arith) (accept-numbered 6 _))))))

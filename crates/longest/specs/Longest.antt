@@ -22,9 +22,9 @@ use Rattle.rules.specs.declared.Kind.the-variants.{Steiner, Buffer, Sink}
 use Rattle.rules.specs.Tree.{Node, isSink, isBuffer, noNode, node}
 use Rattle.rules.specs.Bytes.{layersTag, driverTag, steinerTag, bufferTag, sinkTag, maxLayers, maxNodes, maxStages, maxChildren, kindSize}
 use Rattle.rules.specs.Bytes.{Field, fieldAt, next, dueLayers, dueDriver, dueNode, number}
-use Rattle.rules.specs.Bytes.{layerAt, layersAt, isLayer, driverAt, isDriver, kindAt, costsAt, nodeAt, isNode}
+use Rattle.rules.specs.Bytes.{maxLength, layerAt, layersAt, isLayer, driverAt, isDriver, kindAt, costsAt, nodeAt, isNode}
 use Rattle.rules.specs.Reading.{Answer, accept, refuse, _>>=_, _>>_, _unless_}
-use Rattle.rules.specs.Reading.{field, children, buffers, hasRoom, isParent, nodeField, nodesFrom, isWhole, read}
+use Rattle.rules.specs.Reading.{field, children, buffers, hasRoom, isParent, nodeField, nodesFrom, isWhole, readTo, read}
 use Rattle.facts.specs.Answers.{accept-injective, then-accepted, unless-accepted}
 use Rattle.facts.specs.Fields.{field-there}
 
@@ -309,14 +309,14 @@ node-few L tag size h e = go (eqb tag steinerTag) (eqb-true _ _ (and-right (with
     go false q = omega arith
 
 -- The node field that is taken at i keeps the nodes placed.
-field-placed : (bs : List ℕ) (L : ℕ) {ns : List Node} {i : ℕ} {f : Field} → L ≤ maxLayers → Placed ns i → nodeField bs L ns i ≡ accept f
+field-placed : (bs : List ℕ) (L : ℕ) {ns : List Node} {i : ℕ} {f : Field} → L ≤ maxLayers → Placed ns i → nodeField maxLength bs L ns i ≡ accept f
     → (f .start ≡ i + 3) × Placed (ns ++ (nodeAt bs L f ∷ [])) (next f)
 unfolding nodeField next dueNode nodeAt
 field-placed bs L {ns} {i} {f} few P a =
     let (g, c, d) = then-accepted (field (dueNode L) bs i) _ a in
     let m = nodeAt bs L g in
     let (room, d1) = unless-accepted 4 (hasRoom ns m) _ d in
-    let (range, d2) = unless-accepted 3 (isNode m) _ d1 in
+    let (range, d2) = unless-accepted 3 (isNode maxLength m) _ d1 in
     let (parent, d3) = unless-accepted 5 (isParent ns (m .parent)) _ d2 in
     let (start, due) = field-is (dueNode L) bs i c in
     rw (← accept-injective d3) (start, more-placed P m room parent (next g) (ends g start due))
@@ -331,7 +331,7 @@ field-placed bs L {ns} {i} {f} few P a =
 -- The bytes bs, and at least as many of them as decide.
 module _ (M : ℕ) (enough : front ≤ M) (bs : List ℕ) where
   -- The next node field gets the same answer.
-  node-field-same : (L : ℕ) {ns : List Node} {i : ℕ} → L ≤ maxLayers → Placed ns i → nodeField (take M bs) L ns i ≡ nodeField bs L ns i
+  node-field-same : (L : ℕ) {ns : List Node} {i : ℕ} → L ≤ maxLayers → Placed ns i → nodeField maxLength (take M bs) L ns i ≡ nodeField maxLength bs L ns i
   unfolding nodeField
   node-field-same L {ns} {i} few P =
       then-both _ _ (field-same M bs (dueNode L) 80 i (λ tag size. node-few L tag size few) (omega (arith, placed-low P))) (λ f a.
@@ -339,7 +339,7 @@ module _ (M : ℕ) (enough : front ≤ M) (bs : List ℕ) where
       rw (node-same M bs L f (omega (arith, placed-low P))) refl)
 
   -- So do all nodes to come.
-  nodes-same : (k L : ℕ) {ns : List Node} {i : ℕ} → L ≤ maxLayers → Placed ns i → nodesFrom k (take M bs) L ns i ≡ nodesFrom k bs L ns i
+  nodes-same : (k L : ℕ) {ns : List Node} {i : ℕ} → L ≤ maxLayers → Placed ns i → nodesFrom maxLength k (take M bs) L ns i ≡ nodesFrom maxLength k bs L ns i
   unfolding nodesFrom
   nodes-same zero L few P = refl
   nodes-same (suc k) L {ns} {i} few P =
@@ -347,10 +347,10 @@ module _ (M : ℕ) (enough : front ≤ M) (bs : List ℕ) where
     where
       -- What `nodesFrom` does, by its test for the end.
       turn : List ℕ → Bool → Answer (List Node)
-      turn cs b = elim b [ true ↦ accept ns | false ↦ nodeField cs L ns i >>= λ f. nodesFrom k cs L (ns ++ (nodeAt cs L f ∷ [])) (next f) ]
+      turn cs b = elim b [ true ↦ accept ns | false ↦ nodeField maxLength cs L ns i >>= λ f. nodesFrom maxLength k cs L (ns ++ (nodeAt cs L f ∷ [])) (next f) ]
 
       go : (b : Bool) → ((f : Field) → Placed (ns ++ (nodeAt bs L f ∷ [])) (next f)
-          → nodesFrom k (take M bs) L (ns ++ (nodeAt bs L f ∷ [])) (next f) ≡ nodesFrom k bs L (ns ++ (nodeAt bs L f ∷ [])) (next f))
+          → nodesFrom maxLength k (take M bs) L (ns ++ (nodeAt bs L f ∷ [])) (next f) ≡ nodesFrom maxLength k bs L (ns ++ (nodeAt bs L f ∷ [])) (next f))
           → turn (take M bs) b ≡ turn bs b
       go true r = refl
       go false r = then-both _ _ (node-field-same L few P) (λ f a.
@@ -359,7 +359,7 @@ module _ (M : ℕ) (enough : front ≤ M) (bs : List ℕ) where
 
   -- So reading only the first M bytes gives the answer that reading all of them gives.
   pub read-front : read (take M bs) ≡ read bs
-  unfolding read next dueLayers dueDriver
+  unfolding read readTo next dueLayers dueDriver
   read-front =
       then-both _ _ (field-same M bs dueLayers 64 0 layers-few (omega arith)) (λ f a.
       let (f-start, f-due) = field-is dueLayers bs 0 a in

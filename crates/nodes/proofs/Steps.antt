@@ -119,7 +119,7 @@ unfolding stepField
 field-taken bs L count bufs kids i e o =
     let (k, p, o1) = then-accepted (field (dueNode L) bs i) _ o in
     let (t1, o2) = unless-accepted 4 (roomFor count bufs (k .tag)) _ o1 in
-    let (t2, o3) = unless-accepted 3 (isNode (nodeAt bs L k)) _ o2 in
+    let (t2, o3) = unless-accepted 3 (isNode maxLength (nodeAt bs L k)) _ o2 in
     let (t3, o4) = unless-accepted 5 (parentFor count kids (nodeAt bs L k .parent)) _ o3 in
     accept-injective (sym e ∙ p) ∙ accept-injective o4
 
@@ -148,7 +148,7 @@ module _ (bs : List ℕ) (L count bufs : ℕ) (kids : List ℕ) (i : ℕ) (keep 
       unfolding stepAt stepField nodeAt isNode recordAt rangesOf takenAt next
       step-tests d ed =
           rw (ed, eb, N .answer, en, N .is) (simp (e, room)
-          (tests (isNode (nodeAt bs L f)) (parentFor count kids (nodeAt bs L f .parent)) f (takenAt bs L)))
+          (tests (isNode maxLength (nodeAt bs L f)) (parentFor count kids (nodeAt bs L f .parent)) f (takenAt bs L)))
 
       pub step-3 : b ≡ false → StepRead bs L count bufs kids i keep (step.Refused 3) old new
       step-3 h = step-no refl (step-tests (parentFor count kids (n .parent)) refl ∙ simp h)

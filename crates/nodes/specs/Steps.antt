@@ -31,7 +31,7 @@ unfoldable pub stepField : List ℕ → ℕ → ℕ → ℕ → List ℕ → ℕ
 stepField bs L count bufs kids i = do
   f ← field (dueNode L) bs i
   4 unless roomFor count bufs (f .tag)
-  3 unless isNode (nodeAt bs L f)
+  3 unless isNode maxLength (nodeAt bs L f)
   5 unless parentFor count kids (nodeAt bs L f .parent)
   accept f
 

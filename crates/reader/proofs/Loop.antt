@@ -14,7 +14,7 @@ use Rattle.laws.specs.Basic.{bit, all, from}
 use Rattle.laws.specs.Booleans.{and-left, same-or, bit-le}
 use Rattle.laws.specs.Lists.{added, keep-more, keep-le, length-more, last-is, others-are, map-same, from-mem}
 use Rattle.rules.specs.Tree.{Node, isSink, isBuffer, node, noNode}
-use Rattle.rules.specs.Bytes.{Field, maxLayers, maxNodes, maxChildren, dueNode, nodeAt, isNode, next}
+use Rattle.rules.specs.Bytes.{Field, maxLayers, maxLength, maxNodes, maxChildren, dueNode, nodeAt, isNode, next}
 use Rattle.rules.specs.Reading.{Answer, accept, refuse, _>>=_, field, children, buffers, isParent, hasRoom, nodeField, nodesFrom, isWhole}
 use Rattle.facts.specs.Answers.{not-refused, accept-injective, then-accepted, unless-accepted, then-same, turned-accepted, turned-refused}
 use Rattle.nodes.specs.Steps.{roomFor, parentFor, stepField, stepAt, takenAt, Taken, stepTaken}
@@ -129,7 +129,7 @@ module _ {ns : List Node} {kids : List ℕ} (K : Kids ns kids) (few : length ns 
           let l = leb-true p (length ns) e in
           simp e (ap (λ (x : ℕ). ltb x maxChildren) (K .each p (omega arith)) ∙ open-or-full (isSink (node ns p .kind)) (children ns p))
 
-  step-same : (bs : List ℕ) (L i : ℕ) → stepField bs L (length ns) (buffers ns) kids i ≡ nodeField bs L ns i
+  step-same : (bs : List ℕ) (L i : ℕ) → stepField bs L (length ns) (buffers ns) kids i ≡ nodeField maxLength bs L ns i
   unfolding stepField nodeField
   step-same bs L i = then-same (field (dueNode L) bs i) _ _ (λ f. simp (room-same bs L ns f, parent-same))
 
@@ -146,7 +146,7 @@ pub record ReadSoFar (bs : List ℕ) (L first : ℕ) (keep : Bool) (old words ki
   pub stored : Stored L ns keep old words
   pub size : length ns ≡ count
   pub buffered : buffers ns ≡ bufs
-  pub same : nodesFrom (maxNodes + 1 - count) bs L ns at ≡ nodesFrom (maxNodes + 1) bs L [] first
+  pub same : nodesFrom maxLength (maxNodes + 1 - count) bs L ns at ≡ nodesFrom maxLength (maxNodes + 1) bs L [] first
   pub inside : at ≤ length bs
   pub few : count ≤ maxNodes
   pub fewer : bufs ≤ count
@@ -157,16 +157,16 @@ pub record ReadSoFar (bs : List ℕ) (L first : ℕ) (keep : Bool) (old words ki
 
 -- one step of the definition
 module _ (bs : List ℕ) (L : ℕ) (ns : List Node) (at : ℕ) where
-  nodes-end : (k : ℕ) → length bs ≤ at → nodesFrom (suc k) bs L ns at ≡ accept ns
+  nodes-end : (k : ℕ) → length bs ≤ at → nodesFrom maxLength (suc k) bs L ns at ≡ accept ns
   unfolding nodesFrom
   nodes-end k h = rw (le-leb _ _ h, nodesFrom)
 
-  nodes-took : (k : ℕ) {f : Field} → at < length bs → nodeField bs L ns at ≡ accept f
-      → nodesFrom (suc k) bs L ns at ≡ nodesFrom k bs L (ns ++ (nodeAt bs L f ∷ [])) (next f)
+  nodes-took : (k : ℕ) {f : Field} → at < length bs → nodeField maxLength bs L ns at ≡ accept f
+      → nodesFrom maxLength (suc k) bs L ns at ≡ nodesFrom maxLength k bs L (ns ++ (nodeAt bs L f ∷ [])) (next f)
   unfolding nodesFrom
   nodes-took k h e = rw (lt-leb _ _ h, e, nodesFrom)
 
-  nodes-no : (k : ℕ) {r : ℕ} → at < length bs → nodeField bs L ns at ≡ refuse r → nodesFrom (suc k) bs L ns at ≡ refuse r
+  nodes-no : (k : ℕ) {r : ℕ} → at < length bs → nodeField maxLength bs L ns at ≡ refuse r → nodesFrom maxLength (suc k) bs L ns at ≡ refuse r
   unfolding nodesFrom
   nodes-no k h e = rw (lt-leb _ _ h, e, nodesFrom)
 
@@ -176,12 +176,12 @@ pub record Passed (bs : List ℕ) (L : ℕ) (ns : List Node) (at : ℕ) (f : Fie
   pub room : length ns < maxNodes
   pub low : nodeAt bs L f .parent ≤ length ns
 
-passed : (bs : List ℕ) (L : ℕ) (ns : List Node) (at : ℕ) {f : Field} → nodeField bs L ns at ≡ accept f → Passed bs L ns at f
+passed : (bs : List ℕ) (L : ℕ) (ns : List Node) (at : ℕ) {f : Field} → nodeField maxLength bs L ns at ≡ accept f → Passed bs L ns at f
 unfolding nodeField hasRoom isParent
 passed bs L ns at {f} e =
     let (g, found, e1) = then-accepted (field (dueNode L) bs at) _ e in
     let (a, e2) = unless-accepted 4 (hasRoom ns (nodeAt bs L g)) _ e1 in
-    let (b, e3) = unless-accepted 3 (isNode (nodeAt bs L g)) _ e2 in
+    let (b, e3) = unless-accepted 3 (isNode maxLength (nodeAt bs L g)) _ e2 in
     let (c, e4) = unless-accepted 5 (isParent ns (nodeAt bs L g .parent)) _ e3 in
     let q : g ≡ f = accept-injective e4 in
     rw (← q) (record { found = found; room = ltb-true _ _ (and-left (ltb (length ns) maxNodes) _ a); low = lower c })
@@ -202,7 +202,7 @@ pub record NodeTurn (bs : List ℕ) (L first : ℕ) (keep : Bool) (old words kid
       (t .next) (count + 1) (bufs + bit (isBuffer (t .node .kind)))
 
 module _ {bs : List ℕ} {L first : ℕ} {keep : Bool} {old words kids : List ℕ} {at count bufs : ℕ} (g : ReadSoFar bs L first keep old words kids at count bufs) where
-  turn : at < length bs → (f : Field) → nodeField bs L (g .ns) at ≡ accept f → {after : List ℕ} → length after ≡ length words
+  turn : at < length bs → (f : Field) → nodeField maxLength bs L (g .ns) at ≡ accept f → {after : List ℕ} → length after ≡ length words
       → Put bs L f words after (rowFor keep (length (g .ns)))
       → NodeTurn bs L first keep old words kids at (length (g .ns)) (buffers (g .ns)) (takenAt bs L f) after
   unfolding takenAt recordAt nodeAt next places
@@ -236,29 +236,29 @@ module _ {bs : List ℕ} {L first : ℕ} {keep : Bool} {old words kids : List �
         };
       }
 
-  stepped : stepAt bs L count bufs kids at ≡ (nodeField bs L (g .ns) at >>= λ f. accept (takenAt bs L f))
+  stepped : stepAt bs L count bufs kids at ≡ (nodeField maxLength bs L (g .ns) at >>= λ f. accept (takenAt bs L f))
   unfolding stepAt
   stepped = rw (← g .size, ← g .buffered) (ap (λ (x : Answer Field). x >>= λ f. accept (takenAt bs L f))
       (step-same (g .kids-are) (omega (arith, g .size, g .few)) bs L at))
 
-  same-step : stepField bs L count bufs kids at ≡ nodeField bs L (g .ns) at
+  same-step : stepField bs L count bufs kids at ≡ nodeField maxLength bs L (g .ns) at
   same-step = rw (← g .size, ← g .buffered) (step-same (g .kids-are) (omega (arith, g .size, g .few)) bs L at)
 
   pub read-took : at < length bs → {t : Taken} {r : Step} {after : List ℕ} → StepRead bs L count bufs kids at keep r words after → accept t ≡ stepTaken r
       → length after ≡ length words
       → NodeTurn bs L first keep old words kids at count bufs t after
   read-took h {t} {r} {after} R et long =
-      let (f, a, q) = turned-accepted (nodeField bs L (g .ns) at) (takenAt bs L) (et ∙ R .answer ∙ stepped) in
+      let (f, a, q) = turned-accepted (nodeField maxLength bs L (g .ns) at) (takenAt bs L) (et ∙ R .answer ∙ stepped) in
       rw (← g .size, ← g .buffered, q) (turn h f a long (subst (λ (k : ℕ). Put bs L f words after (rowFor keep k)) (sym (g .size)) (R .put f (same-step ∙ a))))
 
   one-less : maxNodes + 1 - count ≡ suc (maxNodes - count)
   one-less = omega (arith, g .few)
 
-  pub read-no : at < length bs → {r : ℕ} → refuse r ≡ stepAt bs L count bufs kids at → nodesFrom (maxNodes + 1) bs L [] first ≡ refuse r
+  pub read-no : at < length bs → {r : ℕ} → refuse r ≡ stepAt bs L count bufs kids at → nodesFrom maxLength (maxNodes + 1) bs L [] first ≡ refuse r
   read-no h {r} e = sym (g .same) ∙ rw one-less (nodes-no bs L (g .ns) at (maxNodes - count) h
-      (turned-refused (nodeField bs L (g .ns) at) (takenAt bs L) (e ∙ stepped)))
+      (turned-refused (nodeField maxLength bs L (g .ns) at) (takenAt bs L) (e ∙ stepped)))
 
-  pub read-end : length bs ≤ at → nodesFrom (maxNodes + 1) bs L [] first ≡ accept (g .ns)
+  pub read-end : length bs ≤ at → nodesFrom maxLength (maxNodes + 1) bs L [] first ≡ accept (g .ns)
   read-end h = sym (g .same) ∙ rw one-less (nodes-end bs L (g .ns) at (maxNodes - count) h)
 
 pub read-start : (bs : List ℕ) (L first : ℕ) {keep : Bool} {words kids : List ℕ} → first ≤ length bs → Rows keep words → L ≤ maxLayers → kids ≡ replicate (maxNodes + 1) 0
@@ -282,7 +282,8 @@ read-start bs L first {keep} {words} h lh thin ek = record {
 
 -- the loop's answer
 module _ (bs : List ℕ) (L first : ℕ) (keep : Bool) (old words kids : List ℕ) where
-  pub nodes-refused : {x r : ℕ} → x ≡ r → nodesFrom (maxNodes + 1) bs L [] first ≡ refuse r → NodesRead bs L first keep (nodes.Refused x) old words kids
+  pub nodes-refused : {x r : ℕ} → x ≡ r → nodesFrom maxLength (maxNodes + 1) bs L [] first ≡ refuse r
+      → NodesRead bs L first keep (nodes.Refused x) old words kids
   nodes-refused e h = record {
     counts = ap refuse e ∙ sym (ap (λ (y : Answer (List Node)). y >>= λ ns. accept (counted ns)) h);
     few = λ ns q. not-refused (sym h ∙ q);

@@ -12,8 +12,8 @@ use Rattle.laws.specs.Booleans.{and-three, within-true, and-both}
 use Rattle.laws.specs.Lists.{scan, scan-start, length-from}
 use Rattle.rules.specs.Tree as tree
 use Rattle.rules.specs.Tree.{stages, layerCount}
-use Rattle.rules.specs.Bytes.{Field, maxNodes, maxLayers, layersAt, driverAt, isDriver, dueLayers, dueDriver, next}
-use Rattle.rules.specs.Reading.{Answer, accept, refuse, _>>=_, _>>_, _unless_, field, buffers, nodesFrom, isWhole, read}
+use Rattle.rules.specs.Bytes.{Field, maxLength, maxNodes, maxLayers, layersAt, driverAt, isDriver, dueLayers, dueDriver, next}
+use Rattle.rules.specs.Reading.{Answer, accept, refuse, _>>=_, _>>_, _unless_, field, buffers, nodesFrom, isWhole, readTo, read}
 use Rattle.facts.specs.Answers.{not-refused, accept-injective, then-same, turned-accepted, turned-refused, test-turned}
 use Rattle.facts.specs.Accepted.{stages-are}
 use Rattle.words.specs.Words.{nodeRow, countAt, layersIn}
@@ -44,7 +44,7 @@ child-none kids i h = lt-leb _ _ h
 -- the nodes that the loop gave
 pub record LoopGave (bs : List ℕ) (L i : ℕ) (keep : Bool) (n b : ℕ) (old words kids : List ℕ) : Type 0 where
   pub ns : List tree.Node
-  pub are : nodesFrom (maxNodes + 1) bs L [] i ≡ accept ns
+  pub are : nodesFrom maxLength (maxNodes + 1) bs L [] i ≡ accept ns
   pub size : n ≡ length ns
   pub buffered : b ≡ buffers ns
   pub few : n ≤ maxNodes
@@ -73,7 +73,7 @@ module _ (bs : List ℕ) (L i : ℕ) (keep : Bool) (old words : List ℕ) where
 module _ {bs : List ℕ} {L i : ℕ} {keep : Bool} {old words kids : List ℕ} where
   pub loop-gave : {n b : ℕ} → NodesRead bs L i keep (nodes.Tree n b) old words kids → LoopGave bs L i keep n b old words kids
   loop-gave r =
-      let (ns, are, e) = turned-accepted (nodesFrom (maxNodes + 1) bs L [] i) counted (r .counts) in
+      let (ns, are, e) = turned-accepted (nodesFrom maxLength (maxNodes + 1) bs L [] i) counted (r .counts) in
       let en = ap (λ (k : Counted). k .count) e in
       let eb = ap (λ (k : Counted). k .bufs) e in
       let f = r .few ns are in
@@ -90,7 +90,7 @@ module _ {bs : List ℕ} {L i : ℕ} {keep : Bool} {old words kids : List ℕ} w
 
   pub tree-refused : {x : ℕ} → NodesRead bs L i keep (nodes.Refused x) old words kids → TreeRead bs L i keep (nodes.Refused x) old words
   unfolding treeFrom
-  tree-refused r = tree-none bs L i keep old words refl (simp (turned-refused (nodesFrom (maxNodes + 1) bs L [] i) counted (r .counts)))
+  tree-refused r = tree-none bs L i keep old words refl (simp (turned-refused (nodesFrom maxLength (maxNodes + 1) bs L [] i) counted (r .counts)))
 
   module _ {n b : ℕ} (r : LoopGave bs L i keep n b old words kids) {t : Bool} (e : t ≡ wholeFor n kids) where
     pub tree-childless : t ≡ false → TreeRead bs L i keep (nodes.Refused 6) old words
@@ -190,21 +190,21 @@ module _ (bs : List ℕ) (keep : Bool) (words : List ℕ) where
   net-none e h = record { answer = ap refuse e ∙ sym (simp h); is = λ k n q. not-refused (sym h ∙ q); driver-row = λ n q. not-refused (sym h ∙ q) }
 
   pub read-1 : {x r : ℕ} → x ≡ r → field dueLayers bs 0 ≡ refuse r → NetRead bs keep (net.Refused x) words
-  unfolding read
+  unfolding read readTo
   read-1 q e = net-none q (simp e)
 
   module _ {f : Field} (e : field dueLayers bs 0 ≡ accept f) {mid : List ℕ} {b : Bool} (P : LayersPut bs (f .size / 4) (f .start) mid b) where
     pub read-2 : b ≡ false → NetRead bs keep (net.Refused 3) words
-    unfolding read layersAt layersFrom
+    unfolding read readTo layersAt layersFrom
     read-2 h = net-none refl (simp (e, sym (P .answer) ∙ h))
 
     read-rest : b ≡ true → read bs ≡ restFrom bs (f .size / 4) (layersIn mid (f .size / 4)) (f .start + f .size)
-    unfolding read layersAt layersFrom next restFrom treeFrom
+    unfolding read readTo layersAt layersFrom next restFrom treeFrom
     read-rest h =
         rw (P .are h) (simp (e, sym (P .answer) ∙ h)
         (then-same (field dueDriver bs (next f)) _ _ (λ g.
         ap (_>>_ (3 unless isDriver (driverAt bs (g .start))))
-        (test-turned 6 (nodesFrom (maxNodes + 1) bs (f .size / 4) [] (next g)) isWhole
+        (test-turned 6 (nodesFrom maxLength (maxNodes + 1) bs (f .size / 4) [] (next g)) isWhole
         (λ ns. record { layers = layersFrom bs (f .start) (f .size / 4); driver = driverAt bs (g .start); nodes = ns })))))
 
     pub read-3 : {r : Net} → b ≡ true → RestRead bs (f .size / 4) (f .start + f .size) keep r mid words → NetRead bs keep r words

@@ -8,7 +8,7 @@ use lib.ListN.{length, getD}
 use Rattle.laws.specs.Basic.{all, from, bit}
 use Rattle.rules.specs.Tree as tree
 use Rattle.rules.specs.Tree.{isSink, node}
-use Rattle.rules.specs.Bytes.{maxNodes, maxChildren}
+use Rattle.rules.specs.Bytes.{maxLength, maxNodes, maxChildren}
 use Rattle.rules.specs.Reading.{Answer, accept, refuse, _>>=_, _>>_, _unless_, children, buffers, nodesFrom, isWhole}
 use Rattle.words.specs.declared.Node.{Node}
 use Rattle.words.specs.Words.{nodeRow, nodesIn}
@@ -53,15 +53,15 @@ pub record Kids (ns : List tree.Node) (kids : List ℕ) : Type 0 where
 
 -- the nodes from the byte at i on, as the code gives them and leaves them in its arrays
 pub record NodesRead (bs : List ℕ) (L i : ℕ) (keep : Bool) (r : Nodes) (old new kids : List ℕ) : Type 0 where
-  pub counts : nodesCounted r ≡ (nodesFrom (maxNodes + 1) bs L [] i >>= λ ns. accept (counted ns))
-  pub few : (ns : List tree.Node) → nodesFrom (maxNodes + 1) bs L [] i ≡ accept ns → (length ns ≤ maxNodes) × (buffers ns ≤ maxNodes)
-  pub kids-are : (ns : List tree.Node) → nodesFrom (maxNodes + 1) bs L [] i ≡ accept ns → Kids ns kids
-  pub stored : (ns : List tree.Node) → nodesFrom (maxNodes + 1) bs L [] i ≡ accept ns → Stored L ns keep old new
+  pub counts : nodesCounted r ≡ (nodesFrom maxLength (maxNodes + 1) bs L [] i >>= λ ns. accept (counted ns))
+  pub few : (ns : List tree.Node) → nodesFrom maxLength (maxNodes + 1) bs L [] i ≡ accept ns → (length ns ≤ maxNodes) × (buffers ns ≤ maxNodes)
+  pub kids-are : (ns : List tree.Node) → nodesFrom maxLength (maxNodes + 1) bs L [] i ≡ accept ns → Kids ns kids
+  pub stored : (ns : List tree.Node) → nodesFrom maxLength (maxNodes + 1) bs L [] i ≡ accept ns → Stored L ns keep old new
 
 -- the same with the last test, that every node but a sink has a child
 unfoldable pub treeFrom : List ℕ → ℕ → ℕ → Answer (List tree.Node)
 treeFrom bs L i = do
-  ns ← nodesFrom (maxNodes + 1) bs L [] i
+  ns ← nodesFrom maxLength (maxNodes + 1) bs L [] i
   6 unless isWhole ns
   accept ns
 

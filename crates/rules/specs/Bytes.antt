@@ -18,9 +18,9 @@ maxUnit = 1000
 abbrev pub maxLayers : ℕ
 maxLayers = 16
 
--- Lengths 0 to 1,000.
+-- Lengths 0 to 4,000 (02, wish 3; 01 had 1,000).
 abbrev pub maxLength : ℕ
-maxLength = 1000
+maxLength = 4000
 
 -- Costs 1 to 1,000,000.
 abbrev pub maxCost : ℕ
@@ -168,6 +168,6 @@ isKind (Sink c t) = leb c maxInputCap && isTime t
 unfoldable pub isCosts : List ℕ → Bool
 isCosts cs = all (map (within 1 maxCost) cs)
 
--- A node whose numbers are in their ranges; a parent is judged apart, by refusal 5.
-unfoldable pub isNode : Node → Bool
-isNode n = leb (n .len) maxLength && isCosts (n .costs) && isKind (n .kind)
+-- A node whose numbers are in their ranges, where lengths go up to `most`; a parent is judged apart, by refusal 5.
+unfoldable pub isNode : ℕ → Node → Bool
+isNode most n = leb (n .len) most && isCosts (n .costs) && isKind (n .kind)

@@ -1,4 +1,5 @@
--- 01, 'Nets to try', the rows marked †, and blocks to try (02, wish 2): lists of inputs and results, and one proof that settles them against the rules.
+-- 01, 'Nets to try', the rows marked †, lengths (02, wish 3) and blocks to try (02, wish 2): lists of inputs and results, and one proof that settles them
+-- against the rules.
 use mathlib.Core.Bool.{Bool, true, false, _&&_}
 use mathlib.Core.List.{List, [], _∷_, _++_, map}
 use Prim.Native.Nat.{ℕ, zero, suc, _/_, _^_, _%_}
@@ -45,9 +46,13 @@ abbrev pub bufferField : ℕ → ℕ → ℕ → ℕ → ℕ → ℕ → ℕ →
 bufferField p len a b c r d =
     bytes 1 4 ++ (bytes 2 24 ++ (bytes 2 p ++ (bytes 2 len ++ (bytes 4 a ++ (bytes 4 b ++ (bytes 4 c ++ (bytes 4 r ++ bytes 4 d)))))))
 
+-- Net A with another length and required time t.
+abbrev pub netALong : ℕ → ℕ → List ℕ
+netALong len t = twoLayers ++ (plainDriver ++ sinkField 0 len 10 20 5 t)
+
 -- Net A with required time t.
 abbrev pub netA : ℕ → List ℕ
-netA t = twoLayers ++ (plainDriver ++ sinkField 0 10 10 20 5 t)
+netA t = netALong 10 t
 
 -- Net B.
 abbrev pub netB : List ℕ
@@ -124,6 +129,18 @@ rows =
     Refuses netB 2 1 7 12 ∷
     []
 
+-- Lengths (02, wish 3): 4,000 is read, 4,001 and 65,535 give 3. On layer 0 the edge of 4,000 takes 16,000 × (4,000 + 2 × 5) ticks and the gate
+-- 2 × (4,000 + 5), on layer 1 the edge a quarter of that.
+abbrev pub lengthRows : List Row
+lengthRows =
+    Judges (netALong 4000 64168010) (0 ∷ []) 10 (pos 0) ∷
+    Judges (netALong 4000 64168009) (0 ∷ []) 10 (negsuc 0) ∷
+    Plans (netALong 4000 64168009) 0 1 200 (1 ∷ []) 20 (pos 48119999) 0 ∷
+    Refuses (netALong 4000 16048009) 0 1 200 11 ∷
+    Refuses (netALong 4001 64168010) 0 1 200 3 ∷
+    Refuses (netALong 65535 64168010) 0 1 200 3 ∷
+    []
+
 -- Blocks: the one of 02, the empty file, a net of no bytes; and 13 for another tag, for a head and for a payload cut short after a net that is whole.
 abbrev pub reportRows : List Row
 reportRows =
@@ -136,6 +153,6 @@ reportRows =
     []
 
 -- All rows hold, by computing the definitions on them.
-pub settled : T (all (map holds (rows ++ reportRows)))
-unfolding Basic.largest Tree.node Tree.edges Tree.childrenOf Tree.roots Tree.stages Tree.root Tree.layerCount Tree.drives Tree.rootFrom Tree.pathFrom Tree.stageOf Tree.between Tree.edgesOf Tree.terminals Tree.areLayers Tree.isPlan Tree.plans Bytes.number Bytes.signed Bytes.fieldAt Bytes.next Bytes.dueLayers Bytes.dueDriver Bytes.dueNode Bytes.layerAt Bytes.layersAt Bytes.driverAt Bytes.kindAt Bytes.costsAt Bytes.nodeAt Bytes.isTime Bytes.isLayer Bytes.isDriver Bytes.isKind Bytes.isCosts Bytes.isNode Timing.layer Timing.edgeRes Timing.edgeCap Timing.loadFrom Timing.load Timing.edgeDelay Timing.gateRes Timing.gateIntrinsic Timing.gateDelay Timing.wireDelay Timing.requiredFrom Timing.required Timing.slack Timing.meets Timing.edgeCost Timing.cost Timing.stageCost Timing.stageCosts Grain.roundedCost Grain.meetingPlans Grain.leastRounded Grain.qualifies Grain.grainExponent Grain.chosen Grain.columns Grain.columnsNeeded Reading.field Reading.children Reading.buffers Reading.hasRoom Reading.isParent Reading.nodeField Reading.nodesFrom Reading.isWhole Reading.read Reading.check Judging.judged Judging.judge Planning.planned Planning.cleared Planning.plan Text.decimalFrom Text.decimal Program.refusedLine Block.dueNet Block.netField Block.payload Block.netsFrom Block.block Block.lengthOn Block.overPlanned Block.refusedNets Block.totals Block.noTotals Block.report Block.countLine Block.metLine Block.metFrom Block.totalsText Block.answerText Block.reportText
+pub settled : T (all (map holds (rows ++ (lengthRows ++ reportRows))))
+unfolding Basic.largest Tree.node Tree.edges Tree.childrenOf Tree.roots Tree.stages Tree.root Tree.layerCount Tree.drives Tree.rootFrom Tree.pathFrom Tree.stageOf Tree.between Tree.edgesOf Tree.terminals Tree.areLayers Tree.isPlan Tree.plans Bytes.number Bytes.signed Bytes.fieldAt Bytes.next Bytes.dueLayers Bytes.dueDriver Bytes.dueNode Bytes.layerAt Bytes.layersAt Bytes.driverAt Bytes.kindAt Bytes.costsAt Bytes.nodeAt Bytes.isTime Bytes.isLayer Bytes.isDriver Bytes.isKind Bytes.isCosts Bytes.isNode Timing.layer Timing.edgeRes Timing.edgeCap Timing.loadFrom Timing.load Timing.edgeDelay Timing.gateRes Timing.gateIntrinsic Timing.gateDelay Timing.wireDelay Timing.requiredFrom Timing.required Timing.slack Timing.meets Timing.edgeCost Timing.cost Timing.stageCost Timing.stageCosts Grain.roundedCost Grain.meetingPlans Grain.leastRounded Grain.qualifies Grain.grainExponent Grain.chosen Grain.columns Grain.columnsNeeded Reading.field Reading.children Reading.buffers Reading.hasRoom Reading.isParent Reading.nodeField Reading.nodesFrom Reading.isWhole Reading.readTo Reading.read Reading.check Judging.judged Judging.judge Planning.planned Planning.cleared Planning.plan Text.decimalFrom Text.decimal Program.refusedLine Block.dueNet Block.netField Block.payload Block.netsFrom Block.block Block.lengthOn Block.overPlanned Block.refusedNets Block.totals Block.noTotals Block.report Block.countLine Block.metLine Block.metFrom Block.totalsText Block.answerText Block.reportText
 settled = tt

@@ -55,39 +55,43 @@ hasRoom ns n = ltb (length ns) Bytes.maxNodes && (not (isBuffer (n .kind)) || lt
 unfoldable pub isParent : List Node → ℕ → Bool
 isParent ns p = leb p (length ns) && not (isSink (node ns p .kind)) && ltb (children ns p) Bytes.maxChildren
 
--- The node field that is due at i after the nodes ns, with L layers: head, tag and length, payload, then 4, 3, 5.
-unfoldable pub nodeField : List ℕ → ℕ → List Node → ℕ → Answer Bytes.Field
-nodeField bs L ns i = do
+-- The node field that is due at i after the nodes ns, with L layers and lengths up to `most`: head, tag and length, payload, then 4, 3, 5.
+unfoldable pub nodeField : ℕ → List ℕ → ℕ → List Node → ℕ → Answer Bytes.Field
+nodeField most bs L ns i = do
   f ← field (Bytes.dueNode L) bs i
   4 unless hasRoom ns (Bytes.nodeAt bs L f)
-  3 unless Bytes.isNode (Bytes.nodeAt bs L f)
+  3 unless Bytes.isNode most (Bytes.nodeAt bs L f)
   5 unless isParent ns (Bytes.nodeAt bs L f .parent)
   accept f
 
--- The nodes from i to the end, after the nodes ns: a field is due as long as a byte is left. k bounds the nodes to come; 256 less those of ns is
--- enough, for the 256th is refused.
-unfoldable pub nodesFrom : ℕ → List ℕ → ℕ → List Node → ℕ → Answer (List Node)
-nodesFrom zero bs L ns i = refuse 4
-nodesFrom (suc k) bs L ns i =
+-- The nodes from i to the end, after the nodes ns, with lengths up to `most`: a field is due as long as a byte is left. k bounds the nodes to come; 256
+-- less those of ns is enough, for the 256th is refused.
+unfoldable pub nodesFrom : ℕ → ℕ → List ℕ → ℕ → List Node → ℕ → Answer (List Node)
+nodesFrom most zero bs L ns i = refuse 4
+nodesFrom most (suc k) bs L ns i =
     elim (leb (length bs) i) [
       | true ↦ accept ns
-      | false ↦ nodeField bs L ns i >>= λ f. nodesFrom k bs L (ns ++ (Bytes.nodeAt bs L f ∷ [])) (Bytes.next f)
+      | false ↦ nodeField most bs L ns i >>= λ f. nodesFrom most k bs L (ns ++ (Bytes.nodeAt bs L f ∷ [])) (Bytes.next f)
     ]
 
 -- Every node but a sink has a child (refusal 6, at the end).
 unfoldable pub isWhole : List Node → Bool
 isWhole ns = all (map (λ i. isSink (node ns i .kind) || leb 1 (children ns i)) (from 0 (length ns + 1)))
 
--- The net that the bytes hold, or the first fault: first layers, then driver, then nodes 1, 2, ... in order.
-unfoldable pub read : List ℕ → Answer Net
-read bs = do
+-- The net that the bytes hold with lengths up to `most`, or the first fault: first layers, then driver, then nodes 1, 2, ... in order.
+unfoldable pub readTo : ℕ → List ℕ → Answer Net
+readTo most bs = do
   f ← field Bytes.dueLayers bs 0
   3 unless all (map Bytes.isLayer (Bytes.layersAt bs f))
   g ← field Bytes.dueDriver bs (Bytes.next f)
   3 unless Bytes.isDriver (Bytes.driverAt bs (g .start))
-  ns ← nodesFrom (Bytes.maxNodes + 1) bs (f .size / 4) [] (Bytes.next g)
+  ns ← nodesFrom most (Bytes.maxNodes + 1) bs (f .size / 4) [] (Bytes.next g)
   6 unless isWhole ns
   accept (record { layers = Bytes.layersAt bs f; driver = Bytes.driverAt bs (g .start); nodes = ns })
+
+-- Reading, with the lengths of 02, wish 3. (The bound is a number handed in above, so that readings with two bounds can be compared.)
+unfoldable pub read : List ℕ → Answer Net
+read bs = readTo Bytes.maxLength bs
 
 -- What checking answers. Accepted: the counts of nodes (driver included), stages and layers. Refused: the number, and zeros.
 unfoldable pub check : List ℕ → Checked

@@ -1,11 +1,12 @@
 // The values and limits of document 01 that code and definitions share. The rules themselves stand in specs/.
 
-// The ranges and limits of 01, Net bytes, as code compares with them; specs/Bytes.antt has the same numbers for the definitions.
+// The ranges and limits of 01, Net bytes (the length's is of 02, wish 3), as code compares with them; specs/Bytes.antt has the same numbers for the
+// definitions.
 pub const MAX_UNIT: u64 = 1_000;
 
 pub const MAX_LAYERS: usize = 16;
 
-pub const MAX_LENGTH: u64 = 1_000;
+pub const MAX_LENGTH: u64 = 4_000;
 
 pub const MAX_COST: u64 = 1_000_000;
 

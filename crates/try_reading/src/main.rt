@@ -1,4 +1,5 @@
-// Reads nets at and just beyond each limit of document 01 (Net bytes, Reading, Nets to try) and prints what checking answers, a line for each.
+// Reads nets at and just beyond each limit of document 01 (Net bytes, Reading, Nets to try; lengths by 02, wish 3) and prints what checking answers, a line
+// for each.
 // Nets are made in a local buffer from numbers, most significant byte first; each place below is that of a number in net B.
 use rules::Checked;
 use std::num::wrapping_sub_u64;
@@ -231,10 +232,10 @@ fn try_rows() {
 
 // 1480 and 2836 are the places of the lengths of the 64th buffer and of the 256th node.
 fn try_counts() {
-    try_chain(b"64th buffer with length 1001", 4, 64, 1480, 2, 1001);
+    try_chain(b"64th buffer with length 4001", 4, 64, 1480, 2, 4001);
     try_chain(b"255 nodes", 3, 254, 0, 0, 0);
     try_chain(b"256 nodes", 3, 255, 0, 0, 0);
-    try_chain(b"256th node with length 1001", 3, 255, 2836, 2, 1001);
+    try_chain(b"256th node with length 4001", 3, 255, 2836, 2, 4001);
 }
 
 fn try_layer_counts() {
@@ -272,8 +273,12 @@ fn try_arrival() {
 }
 
 fn try_edge() {
+    with(b"length 0", 35, 2, 0);
     with(b"length 1000", 35, 2, 1000);
     with(b"length 1001", 35, 2, 1001);
+    with(b"length 4000", 35, 2, 4000);
+    with(b"length 4001", 35, 2, 4001);
+    with(b"length 65535", 35, 2, 65535);
     with(b"cost 0", 37, 4, 0);
     with(b"cost 1", 37, 4, 1);
     with(b"cost 1000000", 37, 4, 1_000_000);
@@ -302,7 +307,7 @@ fn try_sink() {
 fn try_parents() {
     with(b"own number as parent", 60, 2, 2);
     with(b"higher number as parent", 60, 2, 3);
-    with(b"own number as parent, length 1001", 60, 4, 0x0002_03e9);
+    with(b"own number as parent, length 4001", 60, 4, 0x0002_0fa1);
     try_sinks();
     try_chain(b"sink as parent", 5, 1, 0, 0, 0);
 }

@@ -1,7 +1,7 @@
 //! Blocks (02, wish 2): nets put together, blocks made for one purpose, and damaged ones.
 
 use super::damage::{rubbish, scrambled, unreadable};
-use super::draft::{Draft, MOST_LAYERS, MOST_NODES, MOST_STAGES};
+use super::draft::{Draft, LENGTH, MOST_LAYERS, MOST_NODES, MOST_STAGES};
 use super::grown::{cheap, random_net, SMALL_FAMILIES};
 use super::named::{costing, crossed, even_line, last_layer_cheapest, line, net_a, net_b, star};
 use super::Random;
@@ -118,7 +118,7 @@ fn at_limits() -> Vec<Named> {
     let mut dearest = costing(255_000_000);
     dearest.layers.truncate(1);
     for node in &mut dearest.nodes {
-        node.length = 1_000;
+        node.length = LENGTH.1;
         node.costs.truncate(1);
     }
     let dearest = dearest.bytes();

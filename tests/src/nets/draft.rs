@@ -1,7 +1,7 @@
 //! A net before it is bytes.
 
 pub const UNIT: (i64, i64) = (1, 1_000);
-pub const LENGTH: (i64, i64) = (0, 1_000);
+pub const LENGTH: (i64, i64) = (0, 4_000);
 pub const COST: (i64, i64) = (1, 1_000_000);
 pub const GATE: (i64, i64) = (0, 100_000);
 pub const INTRINSIC: (i64, i64) = (0, 1_000_000_000);

@@ -41,25 +41,40 @@ pub fn line(buffers: usize, steiner: usize) -> Draft {
     draft
 }
 
-/// A line with every number at its upper end, less this. The best slack is 0; but 255 edges cannot be met, and have the
-/// least slack there is.
-pub fn slowest_line(edges: usize, buffers: usize, less: i64) -> Draft {
+/// A line with every number at its upper end, less this: first buffers, then Steiner points, then a sink; so many more
+/// sinks stand beside the way, one at each of the last points. The best slack is 0, if there is an arrival time for it.
+/// With 255 nodes there is none, and the sinks are required and the driver arrives so that the slack is the least.
+pub fn slowest(count: usize, buffers: usize, beside: usize, less: i64) -> Draft {
     let (gate, intrinsic) = (GATE.1 - less, INTRINSIC.1 - less);
-    let required = if edges == MOST_NODES { TIME.0 } else { TIME.1 };
+    let required = if count == MOST_NODES { TIME.0 } else { TIME.1 };
+    let node = |parent, kind| Node { parent, length: LENGTH.1 - less, costs: vec![COST.1 - less; 2], kind };
+    let sink = |parent| node(parent, Kind::Sink { capacitance: gate, required });
+    let way = count - beside;
     let mut nodes = vec![];
-    for number in 1..=edges {
-        let kind = if number == edges {
-            Kind::Sink { capacitance: gate, required }
-        } else if number <= buffers {
-            Kind::Buffer { capacitance: gate, resistance: gate, intrinsic }
-        } else {
-            Kind::Steiner
-        };
-        nodes.push(Node { parent: number - 1, length: LENGTH.1 - less, costs: vec![COST.1 - less; 2], kind });
+    for number in 1..way {
+        let buffer = Kind::Buffer { capacitance: gate, resistance: gate, intrinsic };
+        nodes.push(node(number - 1, if number <= buffers { buffer } else { Kind::Steiner }));
     }
+    nodes.push(sink(way - 1));
+    nodes.extend((1..=beside).map(|place| sink(way - place)));
     let layers = vec![(UNIT.1 - less, UNIT.1 - less), (UNIT.1, UNIT.1)];
     let mut draft = Draft { layers, resistance: gate, intrinsic, arrival: TIME.1, nodes };
     leave_slack(&mut draft, 0);
+    draft
+}
+
+/// The slowest line that can be met. Of 12 edges 11 have the largest length; the one at the driver is as long as the
+/// earliest arrival time allows.
+pub fn slowest_met() -> Draft {
+    let mut draft = slowest(12, 0, 0, 0);
+    let mut met = |length: i64| {
+        draft.nodes[0].length = length;
+        leave_slack(&mut draft, 0)
+    };
+    assert!(!met(LENGTH.1), "12 edges of the largest length cannot be met");
+    let lengths: Vec<i64> = (LENGTH.0..=LENGTH.1).collect();
+    let longest = lengths.partition_point(|&length| met(length)) as i64 - 1;
+    assert!(met(longest), "11 edges can be met");
     draft
 }
 
@@ -111,6 +126,22 @@ pub fn even_tree() -> Draft {
     };
     let nodes = (1..=MOST_NODES).map(|number| hung(number / 2, &[1, 2], kind(number))).collect();
     Draft { layers: vec![(2, 1), (1, 1)], resistance: 1, intrinsic: 0, arrival: 0, nodes }
+}
+
+/// The even tree with every number at its upper end but for these: the unit resistance, and the length of all edges but
+/// the driver's, which has all the load. The best slack is 0, if there is an arrival time for it.
+pub fn full_tree(unit_resistance: i64, length: i64) -> Draft {
+    let mut draft = even_tree();
+    draft.layers = vec![(unit_resistance, UNIT.1); 2];
+    (draft.resistance, draft.intrinsic) = (GATE.1, INTRINSIC.1);
+    for node in &mut draft.nodes {
+        node.length = if node.parent == 0 { LENGTH.1 } else { length };
+        if let Kind::Sink { capacitance, required } = &mut node.kind {
+            (*capacitance, *required) = (GATE.1, TIME.1);
+        }
+    }
+    leave_slack(&mut draft, 0);
+    draft
 }
 
 /// A line of stages that cost the same on both layers.

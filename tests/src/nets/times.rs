@@ -58,13 +58,15 @@ fn set_by_plans(draft: &mut Draft, random: &mut Random, way: usize) {
     }
 }
 
-/// Sets the arrival time so that the best slack of all plans is this, if there is such a time.
-pub fn leave_slack(draft: &mut Draft, slack: i128) {
+/// Sets the arrival time so that the best slack of all plans is this, if there is such a time. Is there?
+pub fn leave_slack(draft: &mut Draft, slack: i128) -> bool {
     let net = plain::read(&draft.bytes()).expect("a whole net");
     let arrival = best_required(&net, 0) - slack;
-    if (TIME.0 as i128..=TIME.1 as i128).contains(&arrival) {
+    let in_range = (TIME.0 as i128..=TIME.1 as i128).contains(&arrival);
+    if in_range {
         draft.arrival = arrival as i64;
     }
+    in_range
 }
 
 /// Times that leave as much room as there is.

@@ -2,10 +2,16 @@
 
 use super::planning::one_net;
 use crate::compare::{Case, Comparison, Outcome};
-use crate::nets::{self, Draft, Random, TIME};
+use crate::nets::{self, Draft, Random, LENGTH, MOST_NODES, TIME, UNIT};
+use crate::plain;
+use std::sync::OnceLock;
 
 /// The most columns that nets with many stages are searched for.
 const WIDEST: i128 = 2_000;
+
+/// The least slack there is: from the latest arrival time to the earliest required time, with a delay of
+/// 1,041,069,681,000,000,000 ticks.
+const LEAST_SLACK: i128 = -1_043_069_681_000_000_000;
 
 /// Shares, lengths and times at their limits: the same calls every time.
 pub fn numbers(c: &mut Comparison) -> Outcome {
@@ -18,17 +24,17 @@ pub fn numbers(c: &mut Comparison) -> Outcome {
 /// Nets at their limits: the same every time.
 pub fn nets(c: &mut Comparison) -> Outcome {
     let mut random = Random::new(2);
-    for (name, draft) in shapes(&mut random) {
-        one_net(c, &Case::searched(&name, &draft.bytes(), WIDEST), &mut random)?;
+    for (name, draft) in slow().iter().chain(&shapes(&mut random)) {
+        one_net(c, &Case::searched(name, &draft.bytes(), WIDEST), &mut random)?;
     }
+    lines(c)?;
     // V(k) beyond 16 bits in the grain's test.
     let case = Case::searched("34 stages of cost 1,000,000", &nets::even_line(34, 1_000_000).bytes(), 70_000);
     let needed = case.needed_columns(1, 1_000).filter(|&needed| needed > 65_536).expect("many columns");
     c.plan(&case, 1, 1_000, 36 * needed as usize, 34)
 }
 
-/// Trees of a special form; as many stages, layers, nodes and terminals, as large costs and as long delays as there can
-/// be.
+/// Trees of a special form; as many stages, layers, nodes and terminals, and as large costs as there can be.
 fn shapes(random: &mut Random) -> Vec<(String, Draft)> {
     let mut shapes = vec![
         (String::from("file order is not tree order"), nets::crossed()),
@@ -43,12 +49,6 @@ fn shapes(random: &mut Random) -> Vec<(String, Draft)> {
     for cost in [1, 3, 15, 63] {
         shapes.push((format!("64 stages of cost {cost}"), nets::even_line(64, cost)));
     }
-    for (edges, buffers, less) in
-        [(255, 0, 0), (255, 0, 1), (255, 1, 0), (255, 63, 0), (255, 63, 1), (2, 1, 0), (9, 4, 1)]
-    {
-        let draft = nets::slowest_line(edges, buffers, less);
-        shapes.push((format!("slowest line, {edges} edges, {buffers} buffers, less {less}"), draft));
-    }
     for counts in [[1, 16, 255], [2, 16, 254], [64, 1, 255], [63, 2, 254], [64, 16, 255]] {
         let mut draft = nets::cheap(random, counts);
         nets::leave_slack(&mut draft, random.between(0, 1_000) as i128);
@@ -56,6 +56,79 @@ fn shapes(random: &mut Random) -> Vec<(String, Draft)> {
         shapes.push((format!("{stages} stages, {layers} layers, {nodes} nodes"), draft));
     }
     shapes
+}
+
+/// Delays and loads as large as there can be; and those that can just be met or just not, as large as that allows. Worked
+/// out once, for every wrong planner is tried on them.
+fn slow() -> &'static [(String, Draft)] {
+    static SLOW: OnceLock<Vec<(String, Draft)>> = OnceLock::new();
+    SLOW.get_or_init(|| [slowest(), just_met()].concat())
+}
+
+/// The slowest lines and edges, and the slowest net of all among its neighbours. With numbers one below their ends the
+/// slack is none that 64 bits of floating point can hold.
+fn slowest() -> Vec<(String, Draft)> {
+    let mut slow = vec![(String::from("the slowest edge"), nets::full_tree(UNIT.1, LENGTH.1))];
+    for (edges, buffers, less) in
+        [(255, 0, 0), (255, 0, 1), (255, 1, 0), (255, 63, 0), (255, 63, 1), (2, 1, 0), (9, 4, 1), (11, 0, 0)]
+    {
+        let draft = nets::slowest(edges, buffers, 0, less);
+        slow.push((format!("slowest line, {edges} edges, {buffers} buffers, less {less}"), draft));
+    }
+    let beside = slowest_beside();
+    for (beside, less) in [(beside - 1, 0), (beside, 0), (beside + 1, 0), (beside, 1)] {
+        let draft = nets::slowest(MOST_NODES, 0, beside, less);
+        slow.push((format!("slowest net, {beside} sinks beside the way, less {less}"), draft));
+    }
+    slow
+}
+
+/// Nets that are met with no time to spare, and late by one tick.
+fn just_met() -> Vec<(String, Draft)> {
+    let mut just_met = vec![];
+    for (name, mut draft) in [
+        ("the slowest line that is met", nets::slowest_met()),
+        ("the largest load", nets::full_tree(UNIT.0, LENGTH.1)),
+        ("a delay beyond 2^50 on one edge", nets::full_tree(UNIT.1, 600)),
+    ] {
+        for slack in [0, -1] {
+            assert!(nets::leave_slack(&mut draft, slack), "{name} can be met");
+            just_met.push((format!("{name}, best slack {slack}"), draft.clone()));
+        }
+    }
+    just_met
+}
+
+/// How many sinks stand beside the way in the slowest net of all: the number is found by trying each.
+///
+/// That it is of this form: the delay to a sink rises with every number of the net, so all are at their upper ends. A
+/// buffer on the way made a Steiner point takes its gate delay away, 2 × 100,000 × L + 10^9 where L is the load below it,
+/// but the edge above it then bears L, not 100,000, which adds 2 × 4,000,000 × (L − 100,000), and L is at least 4,100,000;
+/// one beside the way only adds load. So there is one stage. Let a branch beside the way have Steiner points: put into
+/// the way just below the point where the branch hangs, with its sinks at that point and at them, they make the way
+/// longer, and no load is borne by fewer of its edges. So only sinks are beside the way, each at a point of it; and the
+/// further down one hangs, the more edges bear it.
+fn slowest_beside() -> usize {
+    let slack = |beside: usize| {
+        let bytes = nets::slowest(MOST_NODES, 0, beside, 0).bytes();
+        plain::slack(&plain::read(&bytes).expect("a whole net"), &[0])
+    };
+    let found = (0..=MOST_NODES / 2).min_by_key(|&beside| slack(beside)).expect("a number");
+    assert_eq!(slack(found), LEAST_SLACK, "{found} sinks beside the way");
+    found
+}
+
+/// Lines of edges of the largest length with as much time as there is. Up to 11 edges are met. Of the longer lines some
+/// would be, if delays lost the bits from the 53rd on.
+fn lines(c: &mut Comparison) -> Outcome {
+    for edges in 1..=64 {
+        let mut draft = nets::slowest(edges, 0, 0, 0);
+        draft.arrival = TIME.0;
+        let case = Case::searched(&format!("{edges} edges of the largest length"), &draft.bytes(), WIDEST);
+        c.judge(&case, &[0])?;
+        c.plan(&case, 1, 4, plain::table_entries(1, 4) as usize, 1)?;
+    }
+    Ok(())
 }
 
 /// For each k from 0 to 27 the least and the largest cost at which it is the grain's for the largest share.

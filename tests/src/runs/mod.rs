@@ -6,13 +6,14 @@ mod limits;
 mod order;
 mod planning;
 mod reading;
+pub mod stored;
 mod universe;
 
 use crate::compare::{Comparison, Outcome};
 use crate::nets::Random;
 use crate::rows;
 
-/// Everything: the rows of 01, the same nets every time, then random ones, `count` of them small.
+/// Everything: the rows of 01, the same nets every time, stored answers, then random nets, `count` of them small.
 pub fn all(c: &mut Comparison, seed: u64, count: usize) -> Outcome {
     rows::run(c)?;
     order::run(c)?;
@@ -24,6 +25,7 @@ pub fn all(c: &mut Comparison, seed: u64, count: usize) -> Outcome {
     limits::nets(c)?;
     blocks::large(c)?;
     chart::served(c)?;
+    stored::run(c)?;
     let mut random = Random::new(seed);
     chart::random(c, &mut Random::new(seed ^ 0xC4), 10 * count)?;
     blocks::random(c, &mut Random::new(seed ^ 0xB6), count / 2)?;

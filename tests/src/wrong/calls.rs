@@ -39,7 +39,12 @@ impl Wrong {
         let timed = self.timed(&net, Call::Judge);
         let layer = |stage: usize| (plan.get(stage).map_or(0, |&layer| layer as usize)).min(timed.layers - 1);
         let plan: Vec<usize> = (0..timed.stages.len()).map(layer).collect();
-        let (cost, slack) = (timed.cost(&plan), timed.slack(&plan));
+        let (cost, mut slack) = (timed.cost(&plan), timed.slack(&plan));
+        match self.other() {
+            Some(Other::SlackFrom56) => slack = slack.max(-1 << 56),
+            Some(Other::SlackFrom59) => slack = slack.max(-1 << 59),
+            _ => {}
+        }
         if slack < 0 && self.makes(Other::LateIsRefused) {
             return Judged { refusal: 11, ..Default::default() };
         }
@@ -173,7 +178,8 @@ impl Wrong {
         let floor = match self.other() {
             Some(Other::FloorZero) => 0,
             Some(Other::FloorIsCost) => cost,
-            Some(Other::FloorTooSmall) => (terms.q * cost).div_ceil(terms.q + terms.p) - 1,
+            Some(Other::FloorTooSmall) => terms.least_floor(cost) - 1,
+            Some(Other::FloorLeast) => terms.least_floor(cost),
             Some(Other::FloorTooLarge) if k > 0 => self.cheapest(&timed, cost).map_or(rounded, |cost| cost + 1),
             _ => rounded,
         };

@@ -38,6 +38,19 @@ with_words! {
 }
 
 with_words! {
+    /// About lengths alone; see also `Slip`.
+    Length {
+        ThousandRefused "a length of 1,000 refused",
+        BoundKept "lengths above 1,000 refused",
+        Bound4095 "lengths up to 4,095 accepted",
+        Bound4096 "lengths up to 4,096 accepted",
+        ReadBy12Bits "lengths by their low 12 bits before they are looked at",
+        KeptIn11Bits "lengths by their low 11 bits once they are in range",
+        KeptIn10Bits "lengths by their low 10 bits once they are in range",
+    }
+}
+
+with_words! {
     /// About timing and costs: made where a plan is judged, or where one is searched for.
     Timing {
         OwnWireOnly "load counting only the path's own wire",
@@ -62,6 +75,12 @@ with_words! {
         Floats32 "delays in floating point of 32 bits",
         Floats64 "delays in floating point of 64 bits",
         Delays32 "delays by their low 32 bits",
+        Delays53 "delays by their low 53 bits",
+        EdgeDelay48 "an edge's delay by its low 48 bits",
+        // 53 bits hold an edge's largest delay, 8,246,400,000,000,000; and 30 bits the largest load, 1,032,800,000.
+        EdgeDelay50 "an edge's delay by its low 50 bits",
+        EdgeProduct40 "R x C of an edge by its low 40 bits",
+        Load29 "loads by their low 29 bits",
         Times48 "times by their low 48 bits",
         Cost24 "costs of stages by their low 24 bits",
     }
@@ -113,6 +132,8 @@ with_words! {
         LayerCountAccepted "a layer number equal to the layer count accepted",
         LayerSigned "layer numbers from 128 on taken for negative",
         LastLayerOnly "only the last layer number looked at",
+        SlackFrom56 "a slack below -2^56 given as -2^56",
+        SlackFrom59 "a slack below -2^59 given as -2^59",
         // Planning: refusals.
         ZeroShareRefused "p = 0 refused",
         Share32 "p and q by their low 32 bits",
@@ -166,6 +187,7 @@ with_words! {
         FloorBesideRefusal "a floor beside a refusal",
         FloorIsCost "the cost as floor",
         FloorTooSmall "a floor one below what the share allows",
+        FloorLeast "the least floor that the share allows, not that of before",
         FloorTooLarge "a floor one above the cheapest plan's cost",
         TableNotCleared "table not cleared after acceptance",
         TailNotCleared "entries beyond the last whole column not cleared",
@@ -286,6 +308,7 @@ pub enum Mistake {
     Block(Block),
     /// About the number at a place of `NUMBERS`.
     Number(usize, Slip),
+    Length(Length),
     /// Where plans are judged, or where one is searched for.
     Timing(Call, Timing),
     /// One refusal given before another; 1 stands for 1 to 6.
@@ -311,6 +334,7 @@ impl Mistake {
             Mistake::Other(other) => String::from(other.words()),
             Mistake::Block(slip) => format!("report: {}", slip.words()),
             Mistake::Number(place, slip) => format!("{}: {}", NUMBERS[place].0, slip.words()),
+            Mistake::Length(slip) => String::from(slip.words()),
             Mistake::Timing(Call::Judge, timing) => format!("{}, in judging", timing.words()),
             Mistake::Timing(_, timing) => format!("{}, in the search", timing.words()),
             Mistake::Before(call, early, 1) => format!("{}: {early} before 1 to 6", call.words()),
@@ -339,6 +363,7 @@ impl Mistake {
             let made = Slip::ALL.iter().filter(|&&slip| slip != Slip::BelowAccepted || low > 0 || width == 8);
             all.extend(made.map(|&slip| Mistake::Number(place, slip)));
         }
+        all.extend(Length::ALL.iter().map(|&slip| Mistake::Length(slip)));
         all.extend(Timing::ALL.iter().map(|&timing| Mistake::Timing(Call::Judge, timing)));
         // No plan that meets timing has a delay that 64 bits of floating point cannot hold.
         let in_search = Timing::ALL.iter().filter(|&&timing| timing != Timing::Floats64);

@@ -10,6 +10,7 @@ mod rare;
 mod reading;
 mod report;
 mod search;
+mod stored;
 mod timing;
 
 pub use mistakes::Mistake;

@@ -35,6 +35,11 @@ impl Terms {
     fn right(&self) -> u64 {
         (self.p * self.least as u64) << self.k
     }
+
+    /// The least floor that the share allows beside a cost.
+    pub fn least_floor(&self, cost: u64) -> u64 {
+        (self.q * cost).div_ceil(self.q + self.p)
+    }
 }
 
 fn drives(stage: &Stage) -> usize {
@@ -75,6 +80,8 @@ pub const IN_PLANS: &[(&str, fn(&Facts) -> bool)] = &[
     ("with a slack beyond 2^32", |facts| facts.slack.abs() >> 32 != 0),
     ("with all edges of length 0", |facts| facts.net.nodes.iter().all(|node| node.length == 0)),
     ("with an edge of length 1,000", |facts| facts.net.nodes.iter().any(|node| node.length == 1_000)),
+    ("with an edge of length 4,000", |facts| facts.net.nodes.iter().any(|node| node.length == 4_000)),
+    ("with no edge longer than 1,000", |facts| facts.net.nodes.iter().all(|node| node.length <= 1_000)),
     ("with a gate resistance of 0", |facts| facts.net.nodes[0].resistance == 0),
     ("with a gate resistance of 100,000", |facts| facts.net.nodes.iter().any(|node| node.resistance == 100_000)),
     ("with an intrinsic delay of 10^9", |facts| facts.net.nodes.iter().any(|node| node.intrinsic == 1_000_000_000)),

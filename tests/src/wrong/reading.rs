@@ -1,6 +1,6 @@
 //! Reading net bytes.
 
-use super::mistakes::{Mistake, Other, Slip};
+use super::mistakes::{Length, Mistake, Other, Slip};
 use super::{low_bits, Wrong};
 
 pub const LAST_TIME: i64 = 1_000_000_000_000_000;
@@ -12,7 +12,7 @@ pub const NUMBERS: &[(&str, usize, i64, i64)] = &[
     ("driver's gate resistance", 4, 0, 100_000),
     ("driver's intrinsic delay", 4, 0, 1_000_000_000),
     ("arrival time", 8, -LAST_TIME, LAST_TIME),
-    ("length", 2, 0, 1_000),
+    ("length", 2, 0, 4_000),
     ("cost", 4, 1, 1_000_000),
     ("buffer's input capacitance", 4, 0, 100_000),
     ("buffer's gate resistance", 4, 0, 100_000),
@@ -20,6 +20,9 @@ pub const NUMBERS: &[(&str, usize, i64, i64)] = &[
     ("sink's input capacitance", 4, 0, 100_000),
     ("required time", 8, -LAST_TIME, LAST_TIME),
 ];
+
+/// The place of the length among them.
+const LENGTH: usize = 5;
 
 pub const DRIVER: u8 = 2;
 pub const STEINER: u8 = 3;
@@ -94,6 +97,27 @@ impl Cursor<'_> {
         }
         self.bad |= value < low || value > high;
         value
+    }
+
+    /// The length of an edge.
+    fn length(&mut self) -> i64 {
+        let Mistake::Length(slip) = self.mistake else { return self.number(LENGTH) };
+        let mut value = self.unsigned(2);
+        if slip == Length::ReadBy12Bits {
+            value &= 0xFFF;
+        }
+        let highest = match slip {
+            Length::BoundKept => 1_000,
+            Length::Bound4095 => 4_095,
+            Length::Bound4096 => 4_096,
+            _ => NUMBERS[LENGTH].3,
+        };
+        self.bad |= value > highest || (slip == Length::ThousandRefused && value == 1_000);
+        match slip {
+            Length::KeptIn11Bits => value & 0x7FF,
+            Length::KeptIn10Bits => value & 0x3FF,
+            _ => value,
+        }
     }
 }
 
@@ -213,7 +237,7 @@ impl Wrong {
         if self.makes(Other::ParentLowByte) {
             node.parent = low_bits(node.parent, 8);
         }
-        node.length = cursor.number(5);
+        node.length = cursor.length();
         for layer in 1..=net.layers.len() {
             let bad_before = cursor.bad;
             node.costs.push(cursor.number(6));

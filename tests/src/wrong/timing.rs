@@ -2,7 +2,7 @@
 
 use super::mistakes::{Call, Mistake, Timing};
 use super::reading::{Net, BUFFER};
-use super::Wrong;
+use super::{low_bits, Wrong};
 
 /// The end of a stage's wire: a sink's required time, or the number of the stage below; and the delay for each layer.
 pub struct End {
@@ -127,6 +127,9 @@ impl Timed {
             if !(self.makes(Timing::SecondChildUnseen) && nodes[parent].children[0] != node) {
                 below[parent] += nodes[node].length * net.layers[layer].1 + shown(node, &below);
             }
+            if self.makes(Timing::Load29) {
+                below[parent] = low(below[parent], 29);
+            }
         }
         let mut delay = vec![0; nodes.len()];
         for node in 1..nodes.len() {
@@ -168,14 +171,21 @@ impl Timed {
     fn edge(&self, net: &Net, node: usize, layer: usize, load: i64) -> i64 {
         let (length, (unit_r, unit_c)) = (net.nodes[node].length, net.layers[layer]);
         let factor = if self.makes(Timing::EdgeLoadOnce) { 1 } else { 2 };
-        length * unit_r * (length * unit_c + factor * load)
+        let (r, c) = (length * unit_r, length * unit_c);
+        match self.slip {
+            Some(Timing::EdgeProduct40) => low(r * c, 40) + r * factor * load,
+            Some(Timing::EdgeDelay48) => low(r * (c + factor * load), 48),
+            Some(Timing::EdgeDelay50) => low(r * (c + factor * load), 50),
+            _ => r * (c + factor * load),
+        }
     }
 
     fn rounded(&self, delay: i64) -> i64 {
         match self.slip {
             Some(Timing::Floats32) => delay as f32 as i64,
             Some(Timing::Floats64) => delay as f64 as i64,
-            Some(Timing::Delays32) => delay & 0xFFFF_FFFF,
+            Some(Timing::Delays32) => low(delay, 32),
+            Some(Timing::Delays53) => low(delay, 53),
             _ => delay,
         }
     }
@@ -194,6 +204,11 @@ impl Timed {
     pub fn cost(&self, plan: &[usize]) -> i64 {
         self.stages.iter().zip(plan).map(|(stage, &layer)| stage.cost[layer]).sum()
     }
+}
+
+/// A time or load by its low bits alone.
+fn low(number: i64, bits: u32) -> i64 {
+    low_bits(number as usize, bits) as i64
 }
 
 impl Stage {
