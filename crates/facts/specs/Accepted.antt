@@ -16,9 +16,10 @@ use Rattle.laws.specs.Booleans.{and-left, and-right, or-right, same-or, bit-le,
 use Rattle.laws.specs.Lists.{length-from, length-more, last-is, others-are, keep-more, all-at, some-passes, count-by-number}
 use Rattle.rules.specs.Tree.{Node, Net, isSink, isBuffer, noNode, node, at, edges, childrenOf, roots, stages, layerCount}
 use Rattle.rules.specs.Bytes.{layersTag, maxLayers, maxLength, maxNodes, maxStages, maxChildren, isLayer, isDriver, isKind, isCosts, isNode}
-use Rattle.rules.specs.Bytes.{Field, fieldAt, next, dueLayers, dueDriver, dueNode, layerAt, layersAt, driverAt, nodeAt}
-use Rattle.rules.specs.Reading.{Answer, accept, _>>=_, field, children, buffers, hasRoom, isParent, nodeField, nodesFrom, isWhole, readTo, read}
+use Rattle.rules.specs.Bytes.{Field, fieldAt, next, dueLayers, dueDriver, layerAt, layersAt, driverAt, nodeAt}
+use Rattle.rules.specs.Reading.{accept, field, children, buffers, hasRoom, isParent, nodeField, nodesFrom, isWhole, readTo, read}
 use Rattle.facts.specs.Answers.{not-refused, accept-injective, then-accepted, unless-accepted}
+use Rattle.facts.specs.Nodes.{afterField, nodesTurn, field-taken}
 
 -- Node j is a child of node i.
 pub record ChildOf (n : Net) (i j : ℕ) : Type 0 where
@@ -162,24 +163,17 @@ module _ {ns : List Node} (R : NodesRead ns) (m : Node) (room : hasRoom ns m ≡
       ranged j (inr e) = rw (node-other ns m j e) (R .in-range j)
 
 nodes-read : (k : ℕ) (bs : List ℕ) (L : ℕ) (ns : List Node) (i : ℕ) {ms : List Node} → NodesRead ns → nodesFrom maxLength k bs L ns i ≡ accept ms → NodesRead ms
-unfolding nodesFrom nodeField
+unfolding nodesFrom
 nodes-read zero bs L ns i R e = not-refused e
 nodes-read (suc k) bs L ns i {ms} R e = go (leb (length bs) i) e (λ f. nodes-read k bs L (ns ++ (nodeAt bs L f ∷ [])) (next f))
   where
-    more : Field → Answer (List Node)
-    more f = nodesFrom maxLength k bs L (ns ++ (nodeAt bs L f ∷ [])) (next f)
-
-    go : (b : Bool) → elim b [ true ↦ accept ns | false ↦ nodeField maxLength bs L ns i >>= more ] ≡ accept ms
-        → ((f : Field) → NodesRead (ns ++ (nodeAt bs L f ∷ [])) → more f ≡ accept ms → NodesRead ms) → NodesRead ms
+    go : (b : Bool) → nodesTurn maxLength k bs L ns i b ≡ accept ms
+        → ((f : Field) → NodesRead (ns ++ (nodeAt bs L f ∷ [])) → afterField maxLength k bs L ns f ≡ accept ms → NodesRead ms) → NodesRead ms
     go true e r = rw (← accept-injective e) R
     go false e r =
-        let (f, a, b) = then-accepted (nodeField maxLength bs L ns i) more e in
-        let (g, c, d) = then-accepted (field (dueNode L) bs i) _ a in
-        let m = nodeAt bs L g in
-        let (room, d1) = unless-accepted 4 (hasRoom ns m) _ d in
-        let (range, d2) = unless-accepted 3 (isNode maxLength m) _ d1 in
-        let (parent, d3) = unless-accepted 5 (isParent ns (m .parent)) _ d2 in
-        r f (rw (← accept-injective d3) (more-read R m room range parent)) b
+        let (f, a, b) = then-accepted (nodeField maxLength bs L ns i) (afterField maxLength k bs L ns) e in
+        let t = field-taken a in
+        r f (more-read R (nodeAt bs L f) (t .room) (t .range) (t .parent)) b
 
 -- The test of the whole finds a child of every node but a sink.
 whole-has-child : (n : Net) → isWhole (n .nodes) ≡ true → (i : ℕ) → i ≤ length (n .nodes) → isSink (at n i .kind) ≡ false → (j : ℕ) × ChildOf n i j

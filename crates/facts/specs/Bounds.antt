@@ -33,9 +33,13 @@ maxGateDelay = 2 * maxGateRes * maxLoad + maxIntrinsic
 abbrev pub maxNodeDelay : ℕ
 maxNodeDelay = maxEdgeDelay + maxGateDelay
 
+-- The greatest delay on the way from the driver to a sink: a way has at most as many edges and gates as there are nodes.
+abbrev pub maxWayDelay : ℕ
+maxWayDelay = maxNodes * maxNodeDelay
+
 -- The farthest from 0 that a required time and a slack can be.
 abbrev pub maxRequired : ℕ
-maxRequired = maxTime + maxNodes * maxNodeDelay
+maxRequired = maxTime + maxWayDelay
 
 abbrev pub maxSlack : ℕ
 maxSlack = maxRequired + maxTime

@@ -20,14 +20,8 @@ use Rattle.rules.specs.Reading.{Answer, accept, refuse, _>>=_, _>>_, _unless_, 
 use Rattle.rules.specs.Judging.{judged, judge}
 use Rattle.rules.specs.Planning.{planned, plan}
 use Rattle.facts.specs.Answers.{not-refused, accept-injective, then-accepted, unless-accepted}
+use Rattle.facts.specs.Nodes.{afterField, nodesTurn, field-taken, taken-field}
 use Rattle.facts.specs.Accepted.{node-last, node-other}
-
--- What `nodesFrom` does after the node field f, and by its test for the end.
-abbrev more : ℕ → ℕ → List ℕ → ℕ → List Node → Field → Answer (List Node)
-more most k bs L ns f = nodesFrom most k bs L (ns ++ (nodeAt bs L f ∷ [])) (next f)
-
-abbrev turn : ℕ → ℕ → List ℕ → ℕ → List Node → ℕ → Bool → Answer (List Node)
-turn most k bs L ns i b = elim b [ true ↦ accept ns | false ↦ nodeField most bs L ns i >>= more most k bs L ns ]
 
 -- What two readings answer: the same, unless the first refuses with 3.
 abbrev pub Alike : {A : Type 0} → Answer A → Answer A → Type 0
@@ -69,9 +63,9 @@ module _ {low high : ℕ} (le : low ≤ high) where
   nodes-alike zero bs L ns i = inr refl
   nodes-alike (suc k) bs L ns i = go (leb (length bs) i) (λ f. nodes-alike k bs L (ns ++ (nodeAt bs L f ∷ [])) (next f))
     where
-      go : (b : Bool) → ((f : Field) → Alike (more low k bs L ns f) (more high k bs L ns f)) → Alike (turn low k bs L ns i b) (turn high k bs L ns i b)
+      go : (b : Bool) → ((f : Field) → Alike (afterField low k bs L ns f) (afterField high k bs L ns f)) → Alike (nodesTurn low k bs L ns i b) (nodesTurn high k bs L ns i b)
       go true r = inr refl
-      go false r = then-alike (more low k bs L ns) (more high k bs L ns) (node-alike bs L ns i) r
+      go false r = then-alike (afterField low k bs L ns) (afterField high k bs L ns) (node-alike bs L ns i) r
 
   -- The higher bound answers as the lower, unless the lower refuses with 3: it accepts the same net, or refuses with the same number.
   pub read-alike : (bs : List ℕ) → Alike (readTo low bs) (readTo high bs)
@@ -90,12 +84,12 @@ unfolding nodesFrom
 kept most zero bs L ns i e j h = not-refused e
 kept most (suc k) bs L ns i {ms} e j h = go (leb (length bs) i) e (λ f b. kept most k bs L (ns ++ (nodeAt bs L f ∷ [])) (next f) b j)
   where
-    go : (b : Bool) → turn most k bs L ns i b ≡ accept ms
-        → ((f : Field) → more most k bs L ns f ≡ accept ms → j ≤ length (ns ++ (nodeAt bs L f ∷ [])) → node ms j ≡ node (ns ++ (nodeAt bs L f ∷ [])) j)
+    go : (b : Bool) → nodesTurn most k bs L ns i b ≡ accept ms
+        → ((f : Field) → afterField most k bs L ns f ≡ accept ms → j ≤ length (ns ++ (nodeAt bs L f ∷ [])) → node ms j ≡ node (ns ++ (nodeAt bs L f ∷ [])) j)
         → node ms j ≡ node ns j
     go true e r = rw (← accept-injective e) refl
     go false e r =
-        let (f, a, b) = then-accepted (nodeField most bs L ns i) (more most k bs L ns) e in
+        let (f, a, b) = then-accepted (nodeField most bs L ns i) (afterField most k bs L ns) e in
         let m = nodeAt bs L f in
         r f b (omega (arith, length-more ns m)) ∙ node-other ns m j (λ q. absurd (omega arith))
 
@@ -103,16 +97,12 @@ kept most (suc k) bs L ns i {ms} e j h = go (leb (length bs) i) e (λ f b. kept 
 module _ (low high : ℕ) where
   field-short : (bs : List ℕ) (L : ℕ) (ns : List Node) (i : ℕ) {f : Field} → nodeAt bs L f .len ≤ low → nodeField high bs L ns i ≡ accept f
       → nodeField low bs L ns i ≡ accept f
-  unfolding nodeField isNode
+  unfolding isNode
   field-short bs L ns i {f} short e =
-      let (g, a, b) = then-accepted (field (dueNode L) bs i) _ e in
-      let m = nodeAt bs L g in
-      let (room, b1) = unless-accepted 4 (hasRoom ns m) _ b in
-      let (range, b2) = unless-accepted 3 (isNode high m) _ b1 in
-      let (parent, b3) = unless-accepted 5 (isParent ns (m .parent)) _ b2 in
-      let (len, costs, kind) = and-three (leb (m .len) high) (isCosts (m .costs)) (isKind (m .kind)) range in
-      let same : g ≡ f = accept-injective b3 in
-      rw (a, room, le-leb (m .len) low (rw (same) short), costs, kind, parent) b3
+      let t = field-taken e in
+      let m = nodeAt bs L f in
+      let (len, costs, kind) = and-three (leb (m .len) high) (isCosts (m .costs)) (isKind (m .kind)) (t .range) in
+      taken-field (record { found = t .found; room = t .room; range = rw (le-leb (m .len) low short, costs, kind) refl; parent = t .parent })
 
   nodes-short : (k : ℕ) (bs : List ℕ) (L : ℕ) (ns : List Node) (i : ℕ) {ms : List Node} → nodesFrom high k bs L ns i ≡ accept ms
       → ((j : ℕ) → node ms j .len ≤ low) → nodesFrom low k bs L ns i ≡ accept ms
@@ -120,12 +110,12 @@ module _ (low high : ℕ) where
   nodes-short zero bs L ns i e short = not-refused e
   nodes-short (suc k) bs L ns i {ms} e short = go (leb (length bs) i) e (λ f. nodes-short k bs L (ns ++ (nodeAt bs L f ∷ [])) (next f))
     where
-      go : (b : Bool) → turn high k bs L ns i b ≡ accept ms
-          → ((f : Field) → more high k bs L ns f ≡ accept ms → ((j : ℕ) → node ms j .len ≤ low) → more low k bs L ns f ≡ accept ms)
-          → turn low k bs L ns i b ≡ accept ms
+      go : (b : Bool) → nodesTurn high k bs L ns i b ≡ accept ms
+          → ((f : Field) → afterField high k bs L ns f ≡ accept ms → ((j : ℕ) → node ms j .len ≤ low) → afterField low k bs L ns f ≡ accept ms)
+          → nodesTurn low k bs L ns i b ≡ accept ms
       go true e r = e
       go false e r =
-          let (f, a, b) = then-accepted (nodeField high bs L ns i) (more high k bs L ns) e in
+          let (f, a, b) = then-accepted (nodeField high bs L ns i) (afterField high k bs L ns) e in
           let m = nodeAt bs L f in
           let stays = kept high k bs L (ns ++ (m ∷ [])) (next f) b (suc (length ns)) (omega (arith, length-more ns m)) in
           let last : node ms (suc (length ns)) ≡ m = stays ∙ node-last ns m in

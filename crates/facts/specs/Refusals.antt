@@ -11,6 +11,7 @@ use Rattle.rules.specs.Tree.{Node}
 use Rattle.rules.specs.Bytes.{Field, maxLength, maxNodes, fieldAt, next, dueLayers, dueDriver, dueNode, layersAt, isLayer, driverAt, isDriver, nodeAt, isNode}
 use Rattle.rules.specs.Reading.{Answer, accept, refuse, _>>=_, _>>_, _unless_, field, hasRoom, isParent, nodeField, nodesFrom, isWhole, readTo, read}
 use Rattle.facts.specs.Answers.{not-refused, refuse-injective}
+use Rattle.facts.specs.Nodes.{afterField, nodesTurn}
 
 -- An answer whose refusal, if it is one, is a number from 1 to `most`.
 pub record Numbered {A : Type 0} (most : ℕ) (x : Answer A) : Type 0 where
@@ -54,9 +55,7 @@ unfolding nodesFrom
 nodes-low most zero bs L ns i = refuse-numbered 6 4 (omega arith) (omega arith)
 nodes-low most (suc k) bs L ns i = go (leb (length bs) i) (λ f. nodes-low most k bs L (ns ++ (nodeAt bs L f ∷ [])) (next f))
   where
-    go : (b : Bool) → ((f : Field) → Numbered 6 (nodesFrom most k bs L (ns ++ (nodeAt bs L f ∷ [])) (next f)))
-        → Numbered {A = List Node} 6
-        (elim b [ true ↦ accept ns | false ↦ nodeField most bs L ns i >>= λ f. nodesFrom most k bs L (ns ++ (nodeAt bs L f ∷ [])) (next f) ])
+    go : (b : Bool) → ((f : Field) → Numbered 6 (afterField most k bs L ns f)) → Numbered 6 (nodesTurn most k bs L ns i b)
     go true r = accept-numbered 6 ns
     go false r = then-numbered (nodeField most bs L ns i) _ (node-low most bs L ns i) r
 

@@ -5,12 +5,8 @@ use Prim.Native.Nat.{ℕ, _+_, _*_, _-_, _^_, _<_}
 use native.Mathlib.Omega.{arith}
 use Rattle.rules.specs.Bytes.{maxInputCap, maxNodes}
 use Rattle.facts.specs.Loads.{maxLoad}
-use Rattle.facts.specs.Bounds.{maxNodeDelay, maxSlack}
+use Rattle.facts.specs.Bounds.{maxWayDelay, maxSlack}
 use Rattle.facts.specs.Fits.{halfRange}
-
--- The greatest delay on the way from the driver to a sink, as `Bounds` counts it: for each node an edge and a gate, each with the greatest load.
-abbrev pub maxWayDelay : ℕ
-maxWayDelay = maxNodes * maxNodeDelay
 
 -- What the largest load, delay and slack are, and their shares of what there is room for: 2^32 for a load, which is kept in 32 bits; 2^61 for the delays along
 -- a way, which planning adds to times (`maxDelay`, slices/specs/Laid.antt); 2^62 for a time.

@@ -22,11 +22,11 @@ use Rattle.rules.specs.declared.Kind.the-variants.{Steiner, Buffer, Sink}
 use Rattle.rules.specs.Tree.{Node, isSink, isBuffer, noNode, node}
 use Rattle.rules.specs.Bytes.{layersTag, driverTag, steinerTag, bufferTag, sinkTag, maxLayers, maxNodes, maxStages, maxChildren, kindSize}
 use Rattle.rules.specs.Bytes.{Field, fieldAt, next, dueLayers, dueDriver, dueNode, number}
-use Rattle.rules.specs.Bytes.{maxLength, layerAt, layersAt, isLayer, driverAt, isDriver, kindAt, costsAt, nodeAt, isNode}
+use Rattle.rules.specs.Bytes.{maxLength, layerAt, layersAt, isLayer, driverAt, isDriver, kindAt, costsAt, nodeAt}
 use Rattle.rules.specs.Reading.{Answer, accept, refuse, _>>=_, _>>_, _unless_}
 use Rattle.rules.specs.Reading.{field, children, buffers, hasRoom, isParent, nodeField, nodesFrom, isWhole, readTo, read}
-use Rattle.facts.specs.Answers.{accept-injective, then-accepted, unless-accepted}
 use Rattle.facts.specs.Fields.{field-there}
+use Rattle.facts.specs.Nodes.{afterField, nodesTurn, field-taken}
 
 -- How many bytes of the input decide the answer.
 abbrev pub front : ℕ
@@ -311,15 +311,11 @@ node-few L tag size h e = go (eqb tag steinerTag) (eqb-true _ _ (and-right (with
 -- The node field that is taken at i keeps the nodes placed.
 field-placed : (bs : List ℕ) (L : ℕ) {ns : List Node} {i : ℕ} {f : Field} → L ≤ maxLayers → Placed ns i → nodeField maxLength bs L ns i ≡ accept f
     → (f .start ≡ i + 3) × Placed (ns ++ (nodeAt bs L f ∷ [])) (next f)
-unfolding nodeField next dueNode nodeAt
+unfolding next dueNode nodeAt
 field-placed bs L {ns} {i} {f} few P a =
-    let (g, c, d) = then-accepted (field (dueNode L) bs i) _ a in
-    let m = nodeAt bs L g in
-    let (room, d1) = unless-accepted 4 (hasRoom ns m) _ d in
-    let (range, d2) = unless-accepted 3 (isNode maxLength m) _ d1 in
-    let (parent, d3) = unless-accepted 5 (isParent ns (m .parent)) _ d2 in
-    let (start, due) = field-is (dueNode L) bs i c in
-    rw (← accept-injective d3) (start, more-placed P m room parent (next g) (ends g start due))
+    let t = field-taken a in
+    let (start, due) = field-is (dueNode L) bs i (t .found) in
+    (start, more-placed P (nodeAt bs L f) (t .room) (t .parent) (next f) (ends f start due))
   where
     -- How far its payload goes.
     ends : (g : Field) → g .start ≡ i + 3 → dueNode L (g .tag) (g .size) ≡ true
@@ -343,15 +339,11 @@ module _ (M : ℕ) (enough : front ≤ M) (bs : List ℕ) where
   unfolding nodesFrom
   nodes-same zero L few P = refl
   nodes-same (suc k) L {ns} {i} few P =
-      ap (turn (take M bs)) (end-same M bs i (omega (arith, placed-low P))) ∙ go (leb (length bs) i) (λ f. nodes-same k L few)
+      ap (nodesTurn maxLength k (take M bs) L ns i) (end-same M bs i (omega (arith, placed-low P))) ∙ go (leb (length bs) i) (λ f. nodes-same k L few)
     where
-      -- What `nodesFrom` does, by its test for the end.
-      turn : List ℕ → Bool → Answer (List Node)
-      turn cs b = elim b [ true ↦ accept ns | false ↦ nodeField maxLength cs L ns i >>= λ f. nodesFrom maxLength k cs L (ns ++ (nodeAt cs L f ∷ [])) (next f) ]
-
       go : (b : Bool) → ((f : Field) → Placed (ns ++ (nodeAt bs L f ∷ [])) (next f)
-          → nodesFrom maxLength k (take M bs) L (ns ++ (nodeAt bs L f ∷ [])) (next f) ≡ nodesFrom maxLength k bs L (ns ++ (nodeAt bs L f ∷ [])) (next f))
-          → turn (take M bs) b ≡ turn bs b
+          → nodesFrom maxLength k (take M bs) L (ns ++ (nodeAt bs L f ∷ [])) (next f) ≡ afterField maxLength k bs L ns f)
+          → nodesTurn maxLength k (take M bs) L ns i b ≡ nodesTurn maxLength k bs L ns i b
       go true r = refl
       go false r = then-both _ _ (node-field-same L few P) (λ f a.
           let (start, Q) = field-placed bs L few P a in

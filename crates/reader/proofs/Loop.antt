@@ -14,9 +14,10 @@ use Rattle.laws.specs.Basic.{bit, all, from}
 use Rattle.laws.specs.Booleans.{and-left, same-or, bit-le}
 use Rattle.laws.specs.Lists.{added, keep-more, keep-le, length-more, last-is, others-are, map-same, from-mem}
 use Rattle.rules.specs.Tree.{Node, isSink, isBuffer, node, noNode}
-use Rattle.rules.specs.Bytes.{Field, maxLayers, maxLength, maxNodes, maxChildren, dueNode, nodeAt, isNode, next}
+use Rattle.rules.specs.Bytes.{Field, maxLayers, maxLength, maxNodes, maxChildren, dueNode, nodeAt, next}
 use Rattle.rules.specs.Reading.{Answer, accept, refuse, _>>=_, field, children, buffers, isParent, hasRoom, nodeField, nodesFrom, isWhole}
-use Rattle.facts.specs.Answers.{not-refused, accept-injective, then-accepted, unless-accepted, then-same, turned-accepted, turned-refused}
+use Rattle.facts.specs.Answers.{not-refused, accept-injective, then-same, turned-accepted, turned-refused}
+use Rattle.facts.specs.Nodes.{field-taken}
 use Rattle.nodes.specs.Steps.{roomFor, parentFor, stepField, stepAt, takenAt, Taken, stepTaken}
 use Rattle.reader.specs.Nodes.{wholeFor, counted, places}
 use Rattle.nodes.specs.Steps.{Put, StepRead}
@@ -177,14 +178,10 @@ pub record Passed (bs : List ℕ) (L : ℕ) (ns : List Node) (at : ℕ) (f : Fie
   pub low : nodeAt bs L f .parent ≤ length ns
 
 passed : (bs : List ℕ) (L : ℕ) (ns : List Node) (at : ℕ) {f : Field} → nodeField maxLength bs L ns at ≡ accept f → Passed bs L ns at f
-unfolding nodeField hasRoom isParent
-passed bs L ns at {f} e =
-    let (g, found, e1) = then-accepted (field (dueNode L) bs at) _ e in
-    let (a, e2) = unless-accepted 4 (hasRoom ns (nodeAt bs L g)) _ e1 in
-    let (b, e3) = unless-accepted 3 (isNode maxLength (nodeAt bs L g)) _ e2 in
-    let (c, e4) = unless-accepted 5 (isParent ns (nodeAt bs L g .parent)) _ e3 in
-    let q : g ≡ f = accept-injective e4 in
-    rw (← q) (record { found = found; room = ltb-true _ _ (and-left (ltb (length ns) maxNodes) _ a); low = lower c })
+unfolding hasRoom isParent
+passed bs L ns at e =
+    let t = field-taken e in
+    record { found = t .found; room = ltb-true _ _ (and-left (ltb (length ns) maxNodes) _ (t .room)); low = lower (t .parent) }
   where
     lower : {p : ℕ} → isParent ns p ≡ true → p ≤ length ns
     lower {p} c = leb-true _ _ (and-left (leb p (length ns)) _ (and-left (leb p (length ns) && not (isSink (node ns p .kind))) _ c))
