@@ -6,6 +6,7 @@ pub mod by_front;
 pub mod c_calls;
 pub mod compare;
 pub mod host;
+pub mod loads;
 pub mod nets;
 pub mod plain;
 pub mod rows;

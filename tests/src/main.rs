@@ -4,11 +4,14 @@
 //!     vorphiel-tests SEED [COUNT]     other random nets, more of them
 //!     vorphiel-tests --self [SEED [COUNT]]
 //!                                     no library: the plain search, the search by fronts and a third one, compared with
-//!                                     each other and with the stored answers
-//!     vorphiel-tests --mutants        no library: wrong planners in its place; says which call exposed each
+//!                                     each other and with the stored answers; loads and edges of stages in several ways
+//!     vorphiel-tests --mutants        no library: wrong planners in its place; says which call exposed each. And wrong
+//!                                     walks in the place of try_loads; says which net exposed each
 //!     vorphiel-tests --answers FILE   stored answers (see `stored`) with those of the library in their place
 //!     vorphiel-tests --blocks DIR COUNT
 //!                                     no library: writes blocks for the program block_report, each with its text
+//!     vorphiel-tests --loads DIR COUNT
+//!                                     no library: writes nets for the program try_loads, each with its text
 //!     --trace before these            says each call on standard error before it is made: if the library breaks off or
 //!                                     does not come back, the last one is to blame
 
@@ -18,7 +21,7 @@ use std::{fs, io};
 use vorphiel_tests::compare::{hex, Comparison, Failure, Outcome};
 use vorphiel_tests::host::{linked, Host, Interface};
 use vorphiel_tests::plain::{self, Search};
-use vorphiel_tests::wrong::{self, Mistake};
+use vorphiel_tests::wrong::{self, Mistake, Walk};
 use vorphiel_tests::{by_front, nets, runs, stored};
 
 /// Without arguments: this seed and this many random nets; fewer for wrong planners, which must be exposed soon.
@@ -54,8 +57,10 @@ fn options(mut arguments: Vec<String>) -> Option<Options> {
 
 fn main() -> ExitCode {
     let arguments: Vec<String> = std::env::args().skip(1).collect();
-    if let Some((folder, count)) = blocks_asked(&arguments) {
-        return written(write_blocks(folder, count));
+    match folder_asked(&arguments) {
+        Some(("--blocks", folder, count)) => return written(write_blocks(folder, count)),
+        Some(("--loads", folder, count)) => return written(write_loads(folder, count)),
+        _ => {}
     }
     if let [flag, file] = &arguments[..] {
         if flag == "--answers" {
@@ -64,7 +69,8 @@ fn main() -> ExitCode {
     }
     let Some(options) = options(arguments) else {
         eprintln!(
-            "usage: vorphiel-tests [--trace] [--mutants | --self] [SEED [COUNT]] | --blocks DIR COUNT | --answers FILE"
+            "usage: vorphiel-tests [--trace] [--mutants | --self] [SEED [COUNT]] | --blocks DIR COUNT | --loads DIR COUNT | \
+             --answers FILE"
         );
         return ExitCode::from(2);
     };
@@ -85,25 +91,40 @@ fn ended(well: bool) -> ExitCode {
     }
 }
 
-/// --blocks DIR COUNT.
-fn blocks_asked(arguments: &[String]) -> Option<(&str, usize)> {
+/// --blocks DIR COUNT, --loads DIR COUNT.
+fn folder_asked(arguments: &[String]) -> Option<(&str, &str, usize)> {
     match arguments {
-        [flag, folder, count] if flag == "--blocks" => Some((folder, count.parse().ok()?)),
+        [flag, folder, count] => Some((flag, folder, count.parse().ok()?)),
         _ => None,
     }
 }
 
-/// Writes blocks, block-0.bin and so on, and beside each the report's text, block-0.text. Which kinds of line the texts
-/// have, each by its words and number, without what was counted.
-fn write_blocks(folder: &str, count: usize) -> io::Result<BTreeSet<String>> {
+/// Whether what was due was met in the files that were written.
+fn written(met: io::Result<bool>) -> ExitCode {
+    match met {
+        Ok(met) => ended(met),
+        Err(error) => {
+            eprintln!("vorphiel-tests: {error}");
+            ExitCode::from(2)
+        }
+    }
+}
+
+/// Writes an input for a program, NAME-0.bin and so on, and beside it the text that is expected, NAME-0.text.
+fn write_input(folder: &str, name: &str, number: usize, (bytes, text): (&[u8], &str)) -> io::Result<()> {
+    fs::write(format!("{folder}/{name}-{number}.bin"), bytes)?;
+    fs::write(format!("{folder}/{name}-{number}.text"), text)
+}
+
+/// Writes blocks, and sees which kinds of line their texts have, each by its words and number, without what was counted.
+fn write_blocks(folder: &str, count: usize) -> io::Result<bool> {
     let mut met = BTreeSet::new();
     for (number, block) in runs::blocks::for_program(SEED, count).iter().enumerate() {
         let text = block.text();
-        fs::write(format!("{folder}/block-{number}.bin"), &block.bytes)?;
-        fs::write(format!("{folder}/block-{number}.text"), &text)?;
+        write_input(folder, "block", number, (&block.bytes, &text))?;
         met.extend(text.lines().map(|line| if line == "refused 13" { line } else { counted(line) }).map(String::from));
     }
-    Ok(met)
+    Ok(every_line_met(&met))
 }
 
 /// A line without its last number.
@@ -112,23 +133,32 @@ fn counted(line: &str) -> &str {
 }
 
 /// Says how many kinds of line were met: all of them must be.
-fn written(met: io::Result<BTreeSet<String>>) -> ExitCode {
-    let met = match met {
-        Ok(met) => met,
-        Err(error) => {
-            eprintln!("vorphiel-tests: {error}");
-            return ExitCode::from(2);
-        }
-    };
+fn every_line_met(met: &BTreeSet<String>) -> bool {
     let numbers = [1, 2, 3, 4, 5, 6, 11, 12, 13].map(|number| format!("refused {number}"));
     let layers = (0..16).map(|layer| format!("length {layer}"));
     let due: BTreeSet<String> =
         ["nets", "planned", "cost"].map(String::from).into_iter().chain(numbers).chain(layers).collect();
     println!("{} kinds of line met of {} in the texts of blocks", met.len(), due.len());
-    if met != due {
-        println!("not met: {:?}; not due: {:?}", &due - &met, &met - &due);
+    if *met != due {
+        println!("not met: {:?}; not due: {:?}", &due - met, met - &due);
     }
-    ended(met == due)
+    *met == due
+}
+
+/// Writes nets and damaged ones, and says what they have: everything that is due must be among it.
+fn write_loads(folder: &str, count: usize) -> io::Result<bool> {
+    let nets = runs::loads::for_program(SEED, count);
+    for (number, net) in nets.iter().enumerate() {
+        write_input(folder, "net", number, (&net.bytes, &net.text))?;
+    }
+    let (met, agreement) = (runs::loads::met(&nets), runs::loads::agreement(&nets));
+    for (words, often) in &met {
+        println!("{words}: {}{often}", if *often == 0 { "NOT MET: " } else { "" });
+    }
+    let kinds = met.iter().filter(|(_, often)| *often > 0).count();
+    println!("{}; {}", runs::loads::extent(&nets), agreement.as_ref().unwrap_or_else(|fault| fault));
+    println!("{kinds} kinds met of {} in the nets for try_loads", met.len());
+    Ok(kinds == met.len() && agreement.is_ok())
 }
 
 /// --answers FILE.
@@ -176,16 +206,18 @@ fn compare_library(options: &Options) -> bool {
     told(run(library, ALL, options), options)
 }
 
-/// The search by fronts against the plain search; stored answers against both; a third planner, by a table of budgets,
-/// against all of them.
+/// The search by fronts against the plain search; stored answers against both; loads and edges of stages, found in
+/// several ways; a third planner, by a table of budgets, against all of them.
 fn compare_ourselves(options: &Options) -> bool {
     print!("fronts against the plain search: ");
     let Some(met) = fronts_agree(options) else { return false };
     println!("{} nets agree, {met} of them have a plan that meets timing", options.count);
     let stored = runs::stored::agreement();
     println!("stored answers against both: {}", stored.as_ref().unwrap_or_else(|fault| fault));
+    let loads = runs::loads::agreement(&runs::loads::for_program(options.seed, options.count));
+    println!("loads and edges from above, from below, in one pass: {}", loads.as_ref().unwrap_or_else(|fault| fault));
     print!("a table of budgets against all: ");
-    told(run(wrong::interface(Mistake::None), ALL, options), options) && stored.is_ok()
+    told(run(wrong::interface(Mistake::None), ALL, options), options) && stored.is_ok() && loads.is_ok()
 }
 
 /// V(k) and the first plan for every k, by both searches, whole and stopped early. How many nets can be met.
@@ -234,30 +266,47 @@ fn columns_bounded(each: &plain::Enumeration, s: usize) -> bool {
     })
 }
 
-/// Each wrong planner must be exposed, and the one without a mistake must not.
+/// Each wrong planner must be exposed, and the one without a mistake must not; and so each wrong walk.
 fn all_exposed(options: &Options) -> bool {
-    let whole = exposed("", Mistake::all(), ALL, options);
-    let stored = exposed("by stored answers alone, ", Mistake::on_stored(), STORED, options);
+    let planners =
+        |mistakes: Vec<Mistake>, set: Set| mistakes.into_iter().map(move |mistake| planner(mistake, set, options));
+    let whole = exposed("", "planners", planners(Mistake::all(), ALL));
+    let stored = exposed("by stored answers alone, ", "planners", planners(Mistake::on_stored(), STORED));
     print!("no mistake: ");
-    told(run(wrong::interface(Mistake::None), ALL, options), options) && whole && stored
+    let right = told(run(wrong::interface(Mistake::None), ALL, options), options);
+    let nets = runs::loads::for_program(options.seed, options.count);
+    let walk = |walk: Walk| (walk.words(), runs::loads::exposure(walk, &nets));
+    let walks = exposed("loads, ", "walks", Walk::wrong().into_iter().map(walk));
+    let agreement = runs::loads::agreement(&nets);
+    println!("loads, no mistake: {}", agreement.as_ref().unwrap_or_else(|fault| fault));
+    whole && stored && right && walks && agreement.is_ok()
 }
 
-/// Does a set of calls expose each of these?
-fn exposed(by: &str, mistakes: Vec<Mistake>, set: Set, options: &Options) -> bool {
+/// A mistake in words, and by what it was exposed or what it passed.
+type Tried = (String, Result<String, String>);
+
+/// A planner with this mistake.
+fn planner(mistake: Mistake, set: Set, options: &Options) -> Tried {
+    let (passed, failure) = run(wrong::interface(mistake), set, options);
+    let call = failure.map(|failure| format!("call {}: {}", passed + 1, failure.call));
+    (mistake.words(), call.ok_or(format!("{passed} calls")))
+}
+
+/// Was each of these exposed?
+fn exposed(by: &str, what: &str, tried: impl Iterator<Item = Tried>) -> bool {
     let (mut exposed, mut missed) = (0, 0);
-    for mistake in mistakes {
-        let (passed, failure) = run(wrong::interface(mistake), set, options);
-        match failure {
-            Some(failure) => {
-                println!("{by}exposed: {}: call {}: {}", mistake.words(), passed + 1, failure.call);
+    for (words, outcome) in tried {
+        match outcome {
+            Ok(call) => {
+                println!("{by}exposed: {words}: {call}");
                 exposed += 1;
             }
-            None => {
-                println!("{by}NOT EXPOSED: {}: {passed} calls passed", mistake.words());
+            Err(passed) => {
+                println!("{by}NOT EXPOSED: {words}: {passed} passed");
                 missed += 1;
             }
         }
     }
-    println!("{by}{exposed} wrong planners exposed, {missed} not");
+    println!("{by}{exposed} wrong {what} exposed, {missed} not");
     missed == 0
 }

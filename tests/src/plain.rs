@@ -322,12 +322,12 @@ fn edge_resistance(net: &Net, node: usize, layer: usize) -> i128 {
 }
 
 /// "capacitance C = length × unit capacitance".
-fn edge_capacitance(net: &Net, node: usize, layer: usize) -> i128 {
+pub fn edge_capacitance(net: &Net, node: usize, layer: usize) -> i128 {
     net.nodes[node].length * net.layers[layer].capacitance
 }
 
 /// "at a Steiner point or root it is the sum over its children of edge C plus child load".
-fn load_over_children(net: &Net, node: usize, layer: usize) -> i128 {
+pub fn load_over_children(net: &Net, node: usize, layer: usize) -> i128 {
     let children = net.nodes[node].children.iter();
     children.map(|&child| edge_capacitance(net, child, layer) + load(net, child, layer)).sum()
 }

@@ -23,10 +23,10 @@ use Rattle.tree.specs.declared.Gate.{Gate}
 use Rattle.tree.specs.declared.Gate.the-variants.{Root, Wire}
 use Rattle.tree.specs.Gates.{gateOf, root-gate, no-gate}
 use Rattle.slices.specs.Rows.{entry, RowSet, row-kept}
-use Rattle.delays.specs.Tables.{NodeRow, RowMost}
-use Rattle.delays.specs.Columns.{layer-above, layer-below}
-use Rattle.delays.specs.Edges.{edgeOn, EdgeIn, LoadAt, edge-is, edge-rows}
-use Rattle.delays.specs.Loaded.{Loaded}
+use Rattle.loads.specs.Tables.{NodeRow, RowMost}
+use Rattle.loads.specs.Columns.{layer-above, layer-below}
+use Rattle.loads.specs.Edges.{edgeOn, EdgeIn, LoadAt, edge-is, edge-rows}
+use Rattle.loads.specs.Loaded.{Loaded}
 
 -- The delay from the gate input of its stage to node j, on layer l.
 unfoldable pub delayTo : Net → ℕ → ℕ → ℕ

@@ -1,5 +1,1 @@
-pub mod Tables
-pub mod Columns
-pub mod Edges
-pub mod Loaded
 pub mod Delayed

@@ -1,6 +1,8 @@
-// The load at each node and the delay from the gate input of its stage to it (01, Timing rule; source 001, section 2), in time linear in nodes × columns. A
-// table has a row of columns for each node. Column c of a stage stands for the layer that is c after `first` of the stage: judging has one column, the
-// plan's layer, and planning one for each layer. Loads are kept in 32 bits, which they always fit.
+// The delay from the gate input of its stage to each node (01, Timing rule; source 001, section 2), by the loads (`loads::loads`) and in tables of the same rows
+// and columns: judging has one column, the plan's layer, and planning one for each layer.
+use loads::NODE_ROWS;
+use loads::loads;
+use loads::lower_load;
 use rules::Kind;
 use tree::Gate;
 use tree::gate_at;
@@ -21,91 +23,12 @@ ghost use Rattle.words.specs.Held.{Held};
 ghost use Rattle.tree.specs.Staged.{Staged};
 ghost use Rattle.tree.specs.Plans.{Fitting};
 ghost use Rattle.tree.specs.declared.Gate.the-variants.{Wire};
-ghost use Rattle.slices.specs.Rows.{entry, RowSet};
-ghost use Rattle.delays.specs.Tables.{NodeRow, RowMost};
-ghost use Rattle.delays.specs.Columns.{Columns};
-ghost use Rattle.delays.specs.Edges.{EdgeIn, lowerOf, addedOn};
-ghost use Rattle.delays.specs.Loaded.{Loaded, Unloaded};
+ghost use Rattle.slices.specs.Rows.{RowSet};
+ghost use Rattle.loads.specs.Tables.{NodeRow, RowMost};
+ghost use Rattle.loads.specs.Columns.{Columns};
+ghost use Rattle.loads.specs.Edges.{EdgeIn};
+ghost use Rattle.loads.specs.Loaded.{Loaded};
 ghost use Rattle.delays.specs.Delayed.{Delayed, PlanDelays, LayerDelays, GateIn, startOf, delayOn};
-
-// The rows of a table by node: the driver's and one for each node.
-pub const NODE_ROWS: usize = rules::MAX_NODES + 1;
-
-// The load at the lower end of an edge to a node of this kind: what is below a Steiner point, a terminal's input capacitance.
-fn lower_load(kind: Kind, below: u64) -> u64
-    ensures { λ r. ⌜ r ≡ lowerOf kind below ⌝ }
-{
-    match kind {
-        Kind::Steiner => below,
-        Kind::Buffer {
-            input_cap,
-            gate_res: _,
-            intrinsic: _,
-        } => input_cap,
-        Kind::Sink {
-            input_cap,
-            required: _,
-        } => input_cap,
-    }
-}
-
-// The edge from `parent` to j, of length `len`, adds its wire and the load at its lower end to the load at `parent`, in each column; column 0 stands for
-// `layer`.
-fn add_loads(
-    words: &[u32],
-    columns: usize,
-    len: u64,
-    kind: Kind,
-    layer: usize,
-    j: usize,
-    parent: usize,
-    load: &mut [u32],
-)
-    requires { ⌜
-        ((nodes : ℕ) × (layers : ℕ) × Held (now words) nodes layers × (layer + columns ≤ layers)) ×
-        EdgeIn (netIn (now words)) columns (now load) len kind layer j × RowMost columns (now load) parent maxLoad × (parent < j)
-        ⌝ }
-    ensures { λ r. ⌜
-        RowSet 0 columns (now (load .entry)) (now (load .exit)) parent columns
-        (λ c. entry columns (now (load .entry)) parent c + addedOn (netIn (now (words .entry))) columns (now (load .entry)) len kind layer j c)
-        ⌝ }
-{
-    let mut c: usize = 0;
-    while c < columns {
-        let cap = len * unit_cap(words, layer + c);
-        let lower = lower_load(kind, load[j * columns + c] as u64);
-        let sum = load[parent * columns + c] as u64 + cap + lower;
-        load[parent * columns + c] = sum as u32;
-        c += 1;
-    }
-}
-
-// The load at each node in each column, from the last node to the first: each adds to the load at its parent.
-fn loads(
-    words: &[u32],
-    nodes: usize,
-    stage: &[usize],
-    first: &[u8],
-    columns: usize,
-    load: &mut [u32],
-)
-    requires { ⌜
-        ((layers : ℕ) × Held (now words) nodes layers) × ((below : List ℕ) × Staged (netIn (now words)) (now stage) below) ×
-        Columns (netIn (now words)) (now first) columns × Unloaded columns (now load)
-        ⌝ }
-    ensures { λ r. ⌜ Loaded (netIn (now (words .entry))) (now (first .entry)) columns (now (load .exit)) ⌝ }
-{
-    let mut j = nodes;
-    while 0 < j {
-        let node = node_at(words, j);
-        let len = node.len;
-        let kind = node.kind;
-        let parent = node.parent;
-        let layer = wide(first[stage[j]]);
-        add_loads(words, columns, len, kind, layer, j, parent, load);
-        j -= 1;
-    }
-}
 
 // Gate delay: 2 × gate resistance × load at the root, plus intrinsic delay.
 fn gate_delay(res: u64, load: u64, intrinsic: u64) -> u64
@@ -179,14 +102,14 @@ fn set_delays(
 fn delays(
     words: &[u32],
     nodes: usize,
-    stage: &[usize],
+    below: &[usize],
     first: &[u8],
     columns: usize,
     load: &[u32],
     delay: &mut [u64],
 )
     requires { ⌜
-        ((layers : ℕ) × Held (now words) nodes layers) × ((below : List ℕ) × Staged (netIn (now words)) (now stage) below) ×
+        ((layers : ℕ) × Held (now words) nodes layers) × ((stage : List ℕ) × Staged (netIn (now words)) stage (now below)) ×
         Columns (netIn (now words)) (now first) columns × Loaded (netIn (now words)) (now first) columns (now load) ×
         ((maxNodes + 1) * columns ≤ length (now delay))
         ⌝ }
@@ -199,7 +122,7 @@ fn delays(
         let kind = node.kind;
         let parent = node.parent;
         let gate = gate_at(words, parent);
-        let layer = wide(first[stage[j]]);
+        let layer = wide(first[below[parent]]);
         set_delays(
             words,
             columns,
@@ -217,27 +140,27 @@ fn delays(
 }
 
 // The delay to each node under a plan: entry j becomes that of node j.
-pub fn plan_delays(words: &[u32], nodes: usize, stage: &[usize], plan: &[u8], delay: &mut [u64])
+pub fn plan_delays(words: &[u32], nodes: usize, below: &[usize], plan: &[u8], delay: &mut [u64])
     requires { ⌜
-        ((layers : ℕ) × Held (now words) nodes layers) × ((below : List ℕ) × Staged (netIn (now words)) (now stage) below) ×
+        ((layers : ℕ) × Held (now words) nodes layers) × ((stage : List ℕ) × Staged (netIn (now words)) stage (now below)) ×
         Fitting (netIn (now words)) (now plan) × (length (now delay) ≡ maxNodes + 1)
         ⌝ }
     ensures { λ r. ⌜ PlanDelays (netIn (now (words .entry))) (now (plan .entry)) (now (delay .exit)) ⌝ }
 {
     let mut load = [0u32; NODE_ROWS];
-    loads(words, nodes, stage, plan, 1, &mut load);
-    delays(words, nodes, stage, plan, 1, &load, delay);
+    loads(words, nodes, below, plan, 1, &mut load);
+    delays(words, nodes, below, plan, 1, &load, delay);
 }
 
 // The delay to each node on each layer: entry j * layers + l becomes that of node j on layer l.
-pub fn layer_delays(words: &[u32], layers: usize, nodes: usize, stage: &[usize], delay: &mut [u64])
+pub fn layer_delays(words: &[u32], layers: usize, nodes: usize, below: &[usize], delay: &mut [u64])
     requires { ⌜
-        Held (now words) nodes layers × ((below : List ℕ) × Staged (netIn (now words)) (now stage) below) × (length (now delay) ≡ (maxNodes + 1) * maxLayers)
+        Held (now words) nodes layers × ((stage : List ℕ) × Staged (netIn (now words)) stage (now below)) × (length (now delay) ≡ (maxNodes + 1) * maxLayers)
         ⌝ }
     ensures { λ r. ⌜ LayerDelays (netIn (now (words .entry))) layers (now (delay .exit)) ⌝ }
 {
     let first = [0u8; rules::MAX_STAGES];
     let mut load = [0u32; NODE_ROWS * rules::MAX_LAYERS];
-    loads(words, nodes, stage, &first, layers, &mut load);
-    delays(words, nodes, stage, &first, layers, &load, delay);
+    loads(words, nodes, below, &first, layers, &mut load);
+    delays(words, nodes, below, &first, layers, &load, delay);
 }

@@ -5,16 +5,16 @@ use Prim.Native.Nat.{ℕ, _*_, _^_, _≤_, _<_}
 use native.Mathlib.Omega.{arith}
 use lib.Dec.{eqb}
 use lib.ListN.{length}
-use Rattle.laws.specs.Basic.{from, sum}
-use Rattle.laws.specs.Lists.{length-from, from-low, from-mem, keep-le}
-use Rattle.laws.specs.Sums.{sum-most, sum-by-class}
-use Rattle.rules.specs.Tree.{Net, edges, stages, stageOf, edgesOf, on}
+use Rattle.laws.specs.Basic.{sum}
+use Rattle.laws.specs.Lists.{length-from, keep-le}
+use Rattle.laws.specs.Sums.{sum-most}
+use Rattle.rules.specs.Tree.{Net, edges, stageOf, edgesOf, on}
 use Rattle.rules.specs.Bytes.{maxCost, maxNodes}
 use Rattle.rules.specs.Timing.{edgeCost, cost, stageCost, stageCosts}
 use Rattle.rules.specs.Grain.{maxExponent}
 use Rattle.facts.specs.Accepted.{Accepted}
-use Rattle.facts.specs.Stages.{stage-below}
 use Rattle.facts.specs.Ranges.{edge-cost-in}
+use Rattle.facts.specs.EdgeCounts.{sum-by-stage}
 
 -- The greatest cost of a plan, and so of a stage.
 abbrev pub maxPlanCost : ℕ
@@ -23,9 +23,8 @@ maxPlanCost = maxNodes * maxCost
 module _ {n : Net} (A : Accepted n) where
   -- The costs of the stages add up to the cost of the plan.
   pub sum-costs : (x : List ℕ) → sum (stageCosts n x) ≡ cost n x
-  unfolding stageCosts cost stageCost edgesOf edges
-  sum-costs x = sum-by-class (λ t j. edgeCost n (on x t) j) (stageOf n) (stages n) (from 1 (length (n .nodes)))
-      (λ j m. stage-below A j (from-low 1 (length (n .nodes)) j m) (omega (arith, from-mem 1 (length (n .nodes)) j m)))
+  unfolding stageCosts cost stageCost
+  sum-costs x = sum-by-stage A (λ t j. edgeCost n (on x t) j)
 
   pub cost-in : (x : List ℕ) → cost n x ≤ maxPlanCost
   unfolding cost edges

@@ -9,6 +9,7 @@ pub mod Loads
 pub mod Bounds
 pub mod Fits
 pub mod Room
+pub mod EdgeCounts
 pub mod Costs
 pub mod Refusals
 pub mod Lengths

@@ -1,6 +1,6 @@
 -- What belongs to each of a row of numbers, in number order, as links: `first` has for each number the first that belongs to it, `next` the next that
--- belongs to the same; `owner` says to which each belongs, and `count` stands for none. So are held the stages that each stage drives, the owner being the
--- driver, and the nodes of each stage, the owner being the stage of the node's edge.
+-- belongs to the same; `owner` says to which each belongs, and `count` stands for none. So are held the stages that each stage drives: the owner is the stage
+-- that drives.
 use mathlib.Core.Path.{_≡_}
 use mathlib.Core.List.{List}
 use Prim.Native.Nat.{ℕ, suc, _≤_, _<_}

@@ -1,5 +1,5 @@
-// What belongs to each of a row of numbers, as links: the stages that each stage drives, for the search, and the nodes of each stage, for required times. The
-// links are made once for each call, so that no loop looks through all of them again and again.
+// What belongs to each of a row of numbers, as links: for the search, the stages that each stage drives. The links are made once for each call, so that no loop
+// looks through all of them again and again.
 ghost use Prim.Native.Nat.{_≤_};
 ghost use lib.ListN.{length};
 ghost use Rattle.fanout.specs.Contracts.{LinkIn, Unlinked, Linked};

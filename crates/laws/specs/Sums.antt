@@ -78,6 +78,11 @@ sum-by-class value class s (x ∷ xs) low =
     each [] = refl
     each (t ∷ ts) = omega (arith, first t, each ts)
 
+-- A sum of ones counts the members.
+pub sum-ones {ℓ} : {A : Type ℓ} (xs : List A) → sum (map (λ x. 1) xs) ≡ length xs
+sum-ones [] = refl
+sum-ones (x ∷ xs) = omega (arith, sum-ones xs)
+
 pub sum-append : (xs ys : List ℕ) → sum (xs ++ ys) ≡ sum xs + sum ys
 sum-append [] ys = omega arith
 sum-append (x ∷ xs) ys = omega (arith, sum-append xs ys)

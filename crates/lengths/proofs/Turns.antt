@@ -1,31 +1,18 @@
 -- A turn of the pass over the edges: what it may rely on, and what it leaves.
 use mathlib.Core.Path.{_≡_, ap, sym, _∙_}
-use mathlib.Core.Bool.{Bool, true, false}
 use mathlib.Core.List.{List}
-use Prim.Native.Nat.{ℕ, zero, suc, _+_, _≤_, _<_}
+use Prim.Native.Nat.{ℕ, _+_, _≤_, _<_}
 use native.Mathlib.Omega.{arith}
 use lib.ListN.{length, getD, set}
-use Rattle.laws.specs.Basic.{if_then_else_}
-use Rattle.rules.specs.Tree.{Net, isBuffer, at, stages, drives, rootFrom, stageOf, on}
+use Rattle.rules.specs.Tree.{at, stages, stageOf, on}
 use Rattle.rules.specs.Bytes.{maxLength, maxLayers, maxNodes}
-use Rattle.facts.specs.Accepted.{Accepted}
-use Rattle.facts.specs.Stages.{stages-some, drives-below, stage-below}
+use Rattle.facts.specs.Stages.{stage-below}
 use Rattle.facts.specs.Block.{maxWire, maxBlockWire}
 use Rattle.words.specs.Words.{netIn}
 use Rattle.words.specs.Held.{Held, held-accepted}
-use Rattle.tree.specs.Staged.{Staged, stageBelow, stage-is-below, below-is}
+use Rattle.tree.specs.Staged.{Staged, stage-is-below, wire-below}
 use Rattle.tree.specs.Plans.{Fitting}
 use Rattle.lengths.specs.Adding.{LengthsBefore, length-sum-low, lengths-more}
-
--- The wire below a node belongs to a stage of the net.
-wire-below : {n : Net} → Accepted n → (i : ℕ) → i ≤ length (n .nodes) → stageBelow n i < stages n
-unfolding stageBelow rootFrom drives
-wire-below {n} A zero h = omega (arith, stages-some n)
-wire-below {n} A (suc i) h = rw (below-is A (suc i) (omega arith)) (go (isBuffer (at n (suc i) .kind)))
-  where
-    go : (b : Bool) → (if b then drives n (suc i) else stageOf n (suc i)) < stages n
-    go true = drives-below n (suc i) h
-    go false = stage-below A (suc i) (omega arith) h
 
 -- The edge to node j, whose stage is on layer k.
 pub record LengthTurn (w below x was lengths : List ℕ) (nodes j k : ℕ) : Type 0 where

@@ -1,7 +1,7 @@
 // Planning a net that was read (01, Planning): the numbers of its tree of stages, the search over the grains, and what the plan found costs.
 use costs::stage_costs;
-use delays::NODE_ROWS;
 use delays::layer_delays;
+use loads::NODE_ROWS;
 use rules::Planned;
 use search::Outcome;
 use search::plan_tree;
@@ -49,7 +49,7 @@ fn numbers(
         ⌝ }
 {
     let mut delay = [0u64; NODE_ROWS * rules::MAX_LAYERS];
-    layer_delays(words, layers, nodes, stage, &mut delay);
+    layer_delays(words, layers, nodes, below, &mut delay);
     stage_numbers(
         words,
         layers,

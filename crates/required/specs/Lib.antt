@@ -1,3 +1,3 @@
-pub mod Timed
 pub mod Links
+pub mod Timed
 pub mod Scan

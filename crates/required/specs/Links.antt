@@ -1,41 +1,26 @@
--- The nodes of each stage can be linked in number order: the edge of a node belongs to a stage of lower number, for the root of a stage comes before the nodes
--- of the stage, and has as many roots before it as the stage's number says (01, The tree).
+-- The terminals of each stage in number order, as links: `first` has for each stage its first terminal, `next` for each terminal the next of the same stage.
+-- No other node is linked, for a stage's required time rests on its terminals alone (01, Timing rule).
+use mathlib.Core.Path.{_≡_}
 use mathlib.Core.List.{List}
-use Prim.Native.Nat.{ℕ, zero, suc, _+_, _≤_, _<_}
-use native.Mathlib.Omega.{arith}
-use lib.ListN.{length}
-use Rattle.laws.specs.Booleans.{bit-le}
-use Rattle.rules.specs.Tree.{Net, at, isBuffer, root, drives, stageOf}
-use Rattle.rules.specs.Bytes.{maxNodes}
-use Rattle.facts.specs.Accepted.{Accepted}
-use Rattle.facts.specs.Stages.{stage-at, stage-below, root-before}
-use Rattle.fanout.specs.Contracts.{LinkIn}
-use Rattle.words.specs.Words.{netIn}
-use Rattle.words.specs.Held.{Held}
-use Rattle.tree.specs.Staged.{Staged, drives-more}
+use Prim.Native.Nat.{ℕ, _+_, _≤_, _<_}
+use lib.ListN.{length, getD}
+use Rattle.rules.specs.Tree.{Net, stages}
+use Rattle.rules.specs.Bytes.{maxNodes, maxStages}
+use Rattle.facts.specs.Stages.{TerminalOf}
 
--- The stage that a root drives has no higher number than the root.
-pub drives-low : (n : Net) (i : ℕ) → drives n i ≤ i
-unfolding drives
-drives-low n zero = omega arith
-drives-low n (suc i) = omega (arith, drives-more n i, bit-le (isBuffer (at n (suc i) .kind)), drives-low n i)
+-- What a link has where no further terminal follows: no node has this number.
+abbrev pub noTerminal : ℕ
+noTerminal = maxNodes + 1
 
--- The stage of an edge has a lower number than the node that the edge leads to.
-pub stage-lower : {n : Net} → Accepted n → (j : ℕ) → 1 ≤ j → j ≤ length (n .nodes) → stageOf n j < j
-stage-lower {n} A j a b =
-    let s = stage-at n (stageOf n j) (stage-below A j a b) in
-    omega (arith, s .drives-it, drives-low n (root n (stageOf n j)), root-before A j a b)
+-- r is the first terminal of stage t after node j, or beyond all nodes.
+pub record NextTerminal (n : Net) (t j r : ℕ) : Type 0 where
+  pub low : j < r
+  pub ends : r ≤ length (n .nodes) → TerminalOf n t r
+  pub passed : (m : ℕ) → j < m → m < r → TerminalOf n t m → ⊥
 
--- So the nodes may be linked by the stages of their edges.
-pub stage-links : {w : List ℕ} {nodes layers : ℕ} {stage below first next : List ℕ} → Held w nodes layers → Staged (netIn w) stage below
-    → maxNodes + 1 ≤ length first → maxNodes + 1 ≤ length next → LinkIn stage first next (nodes + 1)
-stage-links {w} {nodes} H S f g =
-    let few : nodes ≤ maxNodes = omega (arith, H .accepted .few-nodes, H .nodes-are) in
-    record {
-      owners = omega (arith, S .stage-long);
-      firsts = omega arith;
-      nexts = omega arith;
-      lower = λ j a b.
-          let k : j ≤ length (netIn w .nodes) = omega (arith, H .nodes-are) in
-          omega (arith, S .stage-is j a k, stage-lower (H .accepted) j a k);
-    }
+-- The links of all stages: the first terminal of a stage comes after the driver, which is none.
+pub record TerminalsLinked (n : Net) (first next : List ℕ) : Type 0 where
+  pub first-long : length first ≡ maxStages
+  pub next-long : length next ≡ maxNodes + 1
+  pub first-is : (t : ℕ) → t < stages n → NextTerminal n t 0 (getD first t 0)
+  pub next-is : {t j : ℕ} → TerminalOf n t j → NextTerminal n t j (getD next j 0)

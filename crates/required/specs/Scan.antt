@@ -1,4 +1,4 @@
--- The scan over the nodes of a stage for the least that its terminals ask (01, Timing rule).
+-- The scan over the terminals of a stage for the least that they ask (01, Timing rule).
 use mathlib.Core.Path.{_≡_, refl, ap, sym, _∙_}
 use mathlib.Core.Bool.{Bool, true, false, cond}
 use mathlib.Core.Logic.{_⊎_, inl, inr}

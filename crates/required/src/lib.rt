@@ -1,18 +1,27 @@
-// The required time of a plan (01, Timing rule). A stage's required time rests on its terminals, and a buffer's on the stage it drives.
+// The required time of a plan (01, Timing rule). A stage's required time rests on its terminals, and a buffer's on the stage it drives. The terminals of each
+// stage are linked once for each plan judged, so that a stage's loop meets its own terminals only.
 use rules::Kind;
 use words::node_at;
 ghost use mathlib.Core.Path.{_≡_};
 ghost use mathlib.Core.Bool.{true};
 ghost use mathlib.Core.List.{List};
-ghost use Prim.Native.Nat.{ℕ, _≤_, _<_, _^_};
+ghost use Prim.Native.Nat.{ℕ, _+_, _≤_, _<_, _^_};
+ghost use lib.ListN.{length, replicate};
 ghost use lib.IntN.{pos, _-ℤ_};
 ghost use mir.Syntax.{w64};
 ghost use mir.Val.{SFits};
 ghost use Rattle.laws.specs.Basic.{minZ};
 ghost use Rattle.rules.specs.Tree.{at, isTerminal, isRoot, drives};
+ghost use Rattle.rules.specs.Bytes.{maxNodes, maxStages};
 ghost use Rattle.rules.specs.Timing.{required, terminalTime};
 ghost use Rattle.words.specs.Words.{netIn};
+ghost use Rattle.words.specs.Held.{Held};
+ghost use Rattle.tree.specs.Staged.{Staged};
+ghost use Rattle.required.specs.Links.{noTerminal, TerminalsLinked};
 ghost use Rattle.required.specs.Timed.{Timed};
+
+// What a link has where no further terminal follows: no node has this number.
+pub const NO_TERMINAL: usize = rules::MAX_NODES + 1;
 
 // The earlier of two times.
 fn earlier(a: i64, b: i64) -> i64
@@ -50,7 +59,35 @@ fn is_terminal(kind: Kind) -> bool
     }
 }
 
-// The required time at root i: the least that the terminals of the stage it drives ask. The nodes of the stage are found by the links, each once.
+// Links the terminals of each stage: `first` gets for each stage the first of its terminals, `next` for each terminal the next of the same stage. They are put
+// in front of those that the stage has, from the last node on, so that the links go up in number.
+pub fn link_terminals(
+    words: &[u32],
+    nodes: usize,
+    stage: &[usize],
+    first: &mut [usize],
+    next: &mut [usize],
+)
+    requires { ⌜
+        ((layers : ℕ) × Held (now words) nodes layers) × ((below : List ℕ) × Staged (netIn (now words)) (now stage) below) ×
+        (now first ≡ replicate maxStages noTerminal) × (length (now next) ≡ maxNodes + 1)
+        ⌝ }
+    ensures { λ _. ⌜ TerminalsLinked (netIn (now (words .entry))) (now (first .exit)) (now (next .exit)) ⌝ }
+{
+    let mut j = nodes;
+    while 0 < j {
+        let node = node_at(words, j);
+        let kind = node.kind;
+        if is_terminal(kind) {
+            let t = stage[j];
+            next[j] = first[t];
+            first[t] = j;
+        }
+        j -= 1;
+    }
+}
+
+// The required time at root i: the least that the terminals of the stage it drives ask. They are found by the links, each once.
 pub fn stage_required(
     words: &[u32],
     nodes: usize,
@@ -73,11 +110,9 @@ pub fn stage_required(
     while j <= nodes {
         let node = node_at(words, j);
         let kind = node.kind;
-        if is_terminal(kind) {
-            let time = terminal_required(words, nodes, below, first, next, delay, kind, j);
-            let asked = less(time, delay[j]);
-            least = earlier(least, asked);
-        }
+        let time = terminal_required(words, nodes, below, first, next, delay, kind, j);
+        let asked = less(time, delay[j]);
+        least = earlier(least, asked);
         j = next[j];
     }
     least

@@ -18,7 +18,7 @@ use Rattle.facts.specs.Ranges.{TimeInRange}
 use Rattle.facts.specs.Fits.{halfRange}
 use Rattle.slices.specs.Rows.{entry, RowOf, Setting, next-kept, setting-more}
 use Rattle.slices.specs.Laid.{limitOn}
-use Rattle.delays.specs.Tables.{NodeRow}
+use Rattle.loads.specs.Tables.{NodeRow}
 use Rattle.stage_numbers.specs.LimitRows.{lowered}
 
 -- A required time.

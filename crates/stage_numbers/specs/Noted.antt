@@ -11,7 +11,7 @@ use Rattle.rules.specs.Bytes.{maxLayers, maxStages}
 use Rattle.facts.specs.Ranges.{KindInRange}
 use Rattle.facts.specs.Fits.{halfRange}
 use Rattle.slices.specs.Rows.{entry, RowOf, RowSet}
-use Rattle.delays.specs.Tables.{RowMost}
+use Rattle.loads.specs.Tables.{RowMost}
 use Rattle.stage_numbers.specs.LimitRows.{lowered}
 
 -- What noting node j asks: the row of its delays, a place for each of the stages above and below it, and a required time in its range.

@@ -14,7 +14,7 @@ ghost use Rattle.facts.specs.Fits.{halfRange};
 ghost use Rattle.words.specs.Words.{netIn};
 ghost use Rattle.words.specs.Held.{Held};
 ghost use Rattle.tree.specs.Staged.{Staged};
-ghost use Rattle.delays.specs.Tables.{NodeRow, RowMost};
+ghost use Rattle.loads.specs.Tables.{NodeRow, RowMost};
 ghost use Rattle.delays.specs.Delayed.{LayerDelays};
 ghost use Rattle.costs.specs.Priced.{Priced};
 ghost use Rattle.demands.specs.StageNumbers.{treeOf};

@@ -1,8 +1,9 @@
 // Timing and cost of plans (01, Timing rule): the cost and slack that a plan of a net has.
 use costs::plan_cost;
-use delays::NODE_ROWS;
 use delays::plan_delays;
-use fanout::link;
+use loads::NODE_ROWS;
+use required::NO_TERMINAL;
+use required::link_terminals;
 use required::stage_required;
 use rules::Judged;
 use tree::stages;
@@ -55,9 +56,9 @@ fn slack_by(words: &[u32], nodes: usize, stage: &[usize], below: &[usize], delay
         → r ≡ slack (netIn (now (words .entry))) plan)
         ⌝ }
 {
-    let mut first = [0usize; NODE_ROWS];
+    let mut first = [NO_TERMINAL; rules::MAX_STAGES];
     let mut next = [0usize; NODE_ROWS];
-    link(stage, nodes + 1, &mut first, &mut next);
+    link_terminals(words, nodes, stage, &mut first, &mut next);
     let required = stage_required(words, nodes, below, &first, &next, delay, 0);
     let arrives = arrival(words);
     minus(required, arrives)
@@ -80,7 +81,7 @@ pub fn judged_by(
         ⌝ }
 {
     let mut delay = [0u64; NODE_ROWS];
-    plan_delays(words, nodes, stage, plan, &mut delay);
+    plan_delays(words, nodes, below, plan, &mut delay);
     let cost = plan_cost(words, nodes, stage, plan);
     let slack = slack_by(words, nodes, stage, below, &delay);
     Judged {

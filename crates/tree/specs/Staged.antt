@@ -12,9 +12,9 @@ use lib.Seq.{getD-set-same, getD-set-other}
 use Rattle.laws.specs.Basic.{if_then_else_, bit, from, keep}
 use Rattle.laws.specs.Booleans.{same-or}
 use Rattle.laws.specs.Lists.{keep-more, from-more}
-use Rattle.rules.specs.Tree.{Net, at, isBuffer, drives, rootFrom, stageOf}
+use Rattle.rules.specs.Tree.{Net, at, isBuffer, stages, drives, rootFrom, stageOf}
 use Rattle.facts.specs.Accepted.{Accepted}
-use Rattle.facts.specs.Stages.{root-is-buffer, climb-root, climb-up, climb-same, drives-below}
+use Rattle.facts.specs.Stages.{root-is-buffer, climb-root, climb-up, climb-same, stages-some, drives-below, stage-below}
 
 -- the stage that the wire below node i belongs to
 unfoldable pub stageBelow : Net → ℕ → ℕ
@@ -41,6 +41,16 @@ module _ {n : Net} (A : Accepted n) where
       go false e =
           let l = A .parent-lower (suc j) h in
           ap (drives n) (climb-up n j (suc j) (root-is-buffer n (suc j) h ∙ e) ∙ climb-same A j (suc j) (at n (suc j) .parent) (omega arith) (omega arith))
+
+  -- The wire below a node belongs to a stage of the net.
+  pub wire-below : (i : ℕ) → i ≤ length (n .nodes) → stageBelow n i < stages n
+  unfolding stageBelow rootFrom drives
+  wire-below zero h = omega (arith, stages-some n)
+  wire-below (suc i) h = rw (below-is (suc i) (omega arith)) (go (isBuffer (at n (suc i) .kind)))
+    where
+      go : (b : Bool) → (if b then drives n (suc i) else stageOf n (suc i)) < stages n
+      go true = drives-below n (suc i) h
+      go false = stage-below A (suc i) (omega arith) h
 
 -- the two tables: the stage of each edge, and of the wire below each node
 pub record Staged (n : Net) (stage below : List ℕ) : Type 0 where

@@ -193,7 +193,7 @@ fn lengthened(whole: &[u8], at: usize, change: i16) -> Vec<u8> {
 }
 
 /// A net of any sort: whole, refused with some number, scrambled, cut, empty, or never a net.
-fn some_net(random: &mut Random) -> Vec<u8> {
+pub fn some_net(random: &mut Random) -> Vec<u8> {
     let family = *random.pick(SMALL_FAMILIES);
     match random.below(8) {
         0 => random.pick(&refused()).1.clone(),

@@ -218,14 +218,19 @@ fn records_dropped(draft: &Draft) -> Vec<Named> {
     nets
 }
 
+/// Lines at the limits of nodes and buffers, and beyond.
+pub fn lines_around_limits() -> Vec<Named> {
+    let lines = [(0, 253), (0, 254), (0, 255), (0, 256), (62, 0), (63, 0), (63, 10), (63, 191), (63, 192)];
+    let named = |(buffers, steiner)| {
+        let name = format!("a line of {buffers} buffers, {steiner} Steiner points, 1 sink");
+        (name, line(buffers, steiner).bytes())
+    };
+    lines.into_iter().chain([(64, 0), (64, 10), (65, 0)]).map(named).collect()
+}
+
 /// Lines at the limits of nodes and buffers, and one record beyond, whole and with a further fault in that record.
 pub fn too_many() -> Vec<Named> {
-    let mut nets = vec![];
-    let lines = [(0, 253), (0, 254), (0, 255), (0, 256), (62, 0), (63, 0), (63, 10), (63, 191), (63, 192)];
-    for (buffers, steiner) in [&lines[..], &[(64, 0), (64, 10), (65, 0)]].concat() {
-        let name = format!("a line of {buffers} buffers, {steiner} Steiner points, 1 sink");
-        nets.push((name, line(buffers, steiner).bytes()));
-    }
+    let mut nets = lines_around_limits();
     let buffer = Kind::Buffer { capacitance: 1, resistance: 1, intrinsic: 1 };
     let sink = Kind::Sink { capacitance: 1, required: 1 };
     nets.extend(one_more("64th buffer", line(63, 0), buffer.clone()));

@@ -9,9 +9,10 @@ mod named;
 mod random;
 mod times;
 
-pub use blocks::{block, every_line, fixed as fixed_blocks, large as large_blocks, random_block};
+pub use blocks::{block, every_line, fixed as fixed_blocks, large as large_blocks, random_block, some_net};
 pub use damage::{
-    bits_turned, changed_b, damaged, heads, layer_counts, long, rubbish, scrambled, too_many, unreadable,
+    bits_turned, changed_b, damaged, heads, layer_counts, lines_around_limits, long, rubbish, scrambled, too_many,
+    unreadable,
 };
 pub use draft::{Draft, Kind, Node, LENGTH, MOST_NODES, TIME, UNIT};
 pub use grown::{at_limits, cheap, random_net, LARGE_FAMILIES, SMALL_FAMILIES};

@@ -35,7 +35,7 @@ pub fn nets(c: &mut Comparison) -> Outcome {
 }
 
 /// Trees of a special form; as many stages, layers, nodes and terminals, and as large costs as there can be.
-fn shapes(random: &mut Random) -> Vec<(String, Draft)> {
+pub fn shapes(random: &mut Random) -> Vec<(String, Draft)> {
     let mut shapes = vec![
         (String::from("file order is not tree order"), nets::crossed()),
         (String::from("a stage that drives 3"), nets::star(3)),

@@ -3,6 +3,7 @@
 pub mod blocks;
 mod chart;
 mod limits;
+pub mod loads;
 mod order;
 mod planning;
 mod reading;

@@ -1,9 +1,10 @@
 //! Wrong planners, in the library's place and with the C calls' parameters: one planner by a table of budgets, and a
 //! list of mistakes, of which it makes one at a time. The comparison must expose each of them, and must find no fault
-//! with the planner that makes none.
+//! with the planner that makes none. And wrong walks that sum up loads and count edges, in the place of a program.
 
 mod calls;
 mod chart;
+mod loads;
 mod mistakes;
 mod pointers;
 mod rare;
@@ -13,6 +14,7 @@ mod search;
 mod stored;
 mod timing;
 
+pub use loads::Walk;
 pub use mistakes::Mistake;
 use mistakes::Other;
 pub use pointers::interface;
@@ -22,6 +24,9 @@ pub use pointers::interface;
 struct Wrong {
     mistake: Mistake,
 }
+
+/// Makes no mistake.
+const PLANNER: Wrong = Wrong { mistake: Mistake::None };
 
 impl Wrong {
     fn makes(&self, other: Other) -> bool {

@@ -65,6 +65,26 @@ impl Net {
     pub fn buffers(&self) -> usize {
         self.nodes.iter().filter(|node| node.tag == BUFFER).count()
     }
+
+    /// For each node the stage of the wire below it.
+    pub fn stages_below(&self) -> Vec<usize> {
+        let (mut below, mut stages) = (vec![0], 0);
+        for node in &self.nodes[1..] {
+            stages += (node.tag == BUFFER) as usize;
+            below.push(if node.tag == BUFFER { stages } else { below[node.parent] });
+        }
+        below
+    }
+
+    /// All nodes, along the tree.
+    pub fn tree_order(&self) -> Vec<usize> {
+        let (mut order, mut open) = (vec![], vec![0]);
+        while let Some(node) = open.pop() {
+            order.push(node);
+            open.extend(self.nodes[node].children.iter().rev());
+        }
+        order
+    }
 }
 
 /// A payload read from the front; `bad` notes a number outside its range.

@@ -1,12 +1,9 @@
 //! The report over a block. Its nets are planned without a mistake: those of planning are for its own calls to show.
 
 use super::mistakes::{Block, Mistake};
-use super::reading::{Net, BUFFER, STEINER};
-use super::{low_bits, Wrong};
+use super::reading::{Net, STEINER};
+use super::{low_bits, Wrong, PLANNER};
 use crate::c_calls::Totals;
-
-/// Reads and plans the nets.
-const PLANNER: Wrong = Wrong { mistake: Mistake::None };
 
 /// What is told of one net: its refusal, and what it adds to cost and lengths.
 #[derive(Clone, Copy, Default)]
@@ -218,7 +215,7 @@ impl Wrong {
     /// The total edge length on each layer.
     fn lengths(&self, net: &Net, plan: &[u8]) -> [u64; 16] {
         let mut lengths = [0; 16];
-        let below = stages_below(net);
+        let below = net.stages_below();
         for number in 1..net.nodes.len() {
             let node = &net.nodes[number];
             let stage = match self.slip() {
@@ -254,14 +251,4 @@ impl Wrong {
             _ => layer,
         }
     }
-}
-
-/// For each node the stage of the wire below it.
-fn stages_below(net: &Net) -> Vec<usize> {
-    let (mut below, mut stages) = (vec![0], 0);
-    for node in &net.nodes[1..] {
-        stages += (node.tag == BUFFER) as usize;
-        below.push(if node.tag == BUFFER { stages } else { below[node.parent] });
-    }
-    below
 }

@@ -99,12 +99,7 @@ impl Timed {
         if !self.makes(Timing::TreeOrder) {
             return (1..net.nodes.len()).collect();
         }
-        let (mut order, mut open) = (vec![], vec![0]);
-        while let Some(node) = open.pop() {
-            order.push(node);
-            open.extend(net.nodes[node].children.iter().rev());
-        }
-        order[1..].to_vec()
+        net.tree_order()[1..].to_vec()
     }
 
     /// On one layer: for each node the delay from its stage's input to it, gate and wire.

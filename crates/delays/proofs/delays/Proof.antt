@@ -1,13 +1,15 @@
 -- `delays` is right: before node j the rows of all nodes before it hold their delays, so the delay to j's upper end is known, and its edge adds its own.
 use borrow.Author.Needs.{needs}
-use mathlib.Core.Path.{_≡_, refl, _∙_}
-use Prim.Native.Nat.{_-_, _+_, _≤_}
+use mathlib.Core.Path.{_≡_, refl, ap, _∙_}
+use Prim.Native.Nat.{ℕ, _-_, _+_, _≤_}
 use native.Mathlib.Omega.{arith}
-use lib.ListN.{length}
+use lib.ListN.{length, getD}
+use Rattle.rules.specs.Tree.{at}
+use Rattle.words.specs.declared.Node.{Node}
 use Rattle.words.specs.Words.{netIn}
 use Rattle.words.specs.Held.{held-accepted}
+use Rattle.loads.specs.Columns.{Staging, staging}
 use Rattle.delays.specs.Delayed.{Delaying, DelayTurn, delay-turn, delaying-start, delaying-end}
-use Rattle.delays.proofs.Rows.{Staging, staging}
 use Rattle.delays.proofs.delays.Statement.{statement}
 use Rattle.delays.proofs.delays.Tie as tie
 use Rattle.delays.proofs.delays.Reads as reads
@@ -18,10 +20,10 @@ use Rattle.words.proofs.node_at.Reads as node-at-reads
 use Rattle.tree.proofs.wide.Reads as wide-reads
 
 abbrev Inv-loop : tie.InvT-loop
-Inv-loop words nodes stage first columns load delay₀ j₀ delay j = Delaying (netIn words) first columns delay j × (length delay ≡ length delay₀)
+Inv-loop words nodes below first columns load delay₀ j₀ delay j = Delaying (netIn words) first columns delay j × (length delay ≡ length delay₀)
 
 abbrev μ-loop : tie.MeasureT-loop
-μ-loop words nodes stage first columns load delay₀ j₀ delay j = nodes + 1 - j
+μ-loop words nodes below first columns load delay₀ j₀ delay j = nodes + 1 - j
 
 abbrev begin : tie.In-loop Inv-loop μ-loop → tie.Start Inv-loop μ-loop
 begin c = c .before .before .before .before .before .before .before
@@ -30,8 +32,20 @@ inside : (c : tie.In-loop Inv-loop μ-loop) → c .before .loop .j ≤ length (n
 inside c = omega (arith, begin c .pre .0 .1 .nodes-are, c .loop-test .taken)
 
 stages-here : (c : tie.In-loop Inv-loop μ-loop)
-    → Staging (netIn (begin c .args .words .now)) (begin c .args .stage .now) (begin c .args .first .now) (begin c .args .columns) (c .before .loop .j)
+    → Staging (netIn (begin c .args .words .now)) (begin c .args .below .now) (begin c .args .first .now) (begin c .args .columns) (c .before .loop .j)
 stages-here c = let s = begin c .pre in staging (held-accepted (s .0 .1)) (s .1 .1) (s .2) (c .before .loop .inv .0 .some) (inside c)
+
+-- The parent that the code has read.
+parent-here : (c : tie.After-node-at Inv-loop μ-loop)
+    → c .node-at .result .parent ≡ at (netIn (begin (c .before) .args .words .now)) (c .before .before .loop .j) .parent
+parent-here c = ap (λ (r : Node). r .parent) (c .node-at .ensures)
+
+-- The layer that the code has looked up.
+layer-here : (c : tie.After-wide Inv-loop μ-loop) → (let i = c .before .before .before .before .before in c .wide .result ≡ getD (begin i .args .first .now)
+    (getD (begin i .args .below .now) (at (netIn (begin i .args .words .now)) (i .before .loop .j) .parent) 0) 0)
+layer-here c =
+    let s = begin (c .before .before .before .before .before) .args in
+    c .wide .ensures ∙ ap (λ (p : ℕ). getD (s .first .now) (getD (s .below .now) p 0) 0) (parent-here (c .before .before .before .before))
 
 here : (c : tie.After-wide Inv-loop μ-loop)
     → DelayTurn (netIn (begin (c .before .before .before .before .before) .args .words .now)) (begin
@@ -42,7 +56,7 @@ here : (c : tie.After-wide Inv-loop μ-loop)
 here c =
     let i = c .before .before .before .before .before in
     let s = begin i .pre in
-    delay-turn (held-accepted (s .0 .1)) (s .3) (i .before .loop .inv .0) (inside i) (stages-here i .layer-is (c .wide .ensures))
+    delay-turn (held-accepted (s .0 .1)) (s .3) (i .before .loop .inv .0) (inside i) (stages-here i .layer-is (layer-here c))
     (rw (c .before .before .before .before .node-at .ensures) at (c .before .before .before .gate-at .ensures))
 
 loop-holds : tie.Need-loop-holds Inv-loop μ-loop
@@ -67,13 +81,15 @@ gate-at-requires c κs =
     )
 
 mul-wide : tie.Need-mul-wide Inv-loop μ-loop
-mul-wide c = omega (arith, held-accepted (begin (c .before .before) .pre .0 .1) .few-nodes, inside (c .before .before))
+mul-wide c = let t = stages-here (c .before .before) in omega (arith, parent-here (c .before))
 
 shared-slice-read-wide : tie.Need-shared-slice-read-wide Inv-loop μ-loop
-shared-slice-read-wide c = stages-here (c .before .before .before) .node-in
+shared-slice-read-wide c = let t = stages-here (c .before .before .before) in omega (arith, parent-here (c .before .before))
 
 shared-slice-read-wide-2 : tie.Need-shared-slice-read-wide-2 Inv-loop μ-loop
-shared-slice-read-wide-2 c = stages-here (c .before .before .before .before) .stage-in
+shared-slice-read-wide-2 c =
+    let t = stages-here (c .before .before .before .before) in
+    t .first-in _ (omega (arith, parent-here (c .before .before .before)))
 
 wide-requires : tie.Need-wide-requires Inv-loop μ-loop
 wide-requires c κs = search needs
@@ -91,7 +107,7 @@ set-delays-requires c κs =
           arith,
           s .0 .1 .layers-are,
           stages-here
-              (c .before .before .before .before .before .before) .layer-in (c .before .wide .ensures),
+              (c .before .before .before .before .before .before) .layer-in (layer-here (c .before)),
         ),
       ),
       t .gate-in,

@@ -4,15 +4,15 @@ use Prim.Native.Nat.{_+_, _*_}
 use native.Mathlib.Omega.{arith}
 use Rattle.rules.specs.Bytes.{maxLayers, maxNodes, maxStages}
 use Rattle.words.specs.Held.{held-accepted}
-use Rattle.delays.specs.Columns.{zeros, layer-columns}
-use Rattle.delays.specs.Loaded.{unloaded-zeros}
+use Rattle.loads.specs.Columns.{zeros, layer-columns}
+use Rattle.loads.specs.Loaded.{unloaded-zeros}
 use Rattle.delays.specs.Delayed.{layer-delays}
 use Rattle.delays.proofs.layer_delays.Statement.{statement}
 use Rattle.delays.proofs.layer_delays.Tie as tie
 use Rattle.delays.proofs.layer_delays.Reads as reads
 use Rattle.delays.proofs.layer_delays.Lts as lts
 use Rattle.delays.proofs.delays.Reads as delays-reads
-use Rattle.delays.proofs.loads.Reads as loads-reads
+use Rattle.loads.proofs.loads.Reads as loads-reads
 
 slice-aggregate-loads : tie.Need-slice-aggregate-loads
 slice-aggregate-loads c = search needs
@@ -45,7 +45,7 @@ delays-requires c κs =
       (_, s .0),
       s .1,
       layer-columns (held-accepted (s .0)) (s .0 .layers-are),
-      c .before .before .before .before .loads .ensures,
+      c .before .before .before .before .loads .ensures .0,
       omega (
         arith,
         held-accepted (s .0) .few-layers,

@@ -8,13 +8,14 @@ use Rattle.words.specs.Words.{netIn}
 use Rattle.words.specs.Held.{held-accepted}
 use Rattle.slices.specs.Rows.{Setting, setting-start, setting-end}
 use Rattle.delays.specs.Delayed.{delayOn}
-use Rattle.delays.proofs.Rows.{DelaySet, delay-set, columns-few}
+use Rattle.loads.specs.Tables.{columns-few}
+use Rattle.delays.proofs.Rows.{DelaySet, delay-set}
 use Rattle.delays.proofs.set_delays.Statement.{statement}
 use Rattle.delays.proofs.set_delays.Tie as tie
 use Rattle.delays.proofs.set_delays.Reads as reads
 use Rattle.delays.proofs.set_delays.Lts as lts
 use Rattle.delays.proofs.edge_delay.Reads as edge-delay-reads
-use Rattle.delays.proofs.lower_load.Reads as lower-load-reads
+use Rattle.loads.proofs.lower_load.Reads as lower-load-reads
 use Rattle.delays.proofs.start_of.Reads as start-of-reads
 use Rattle.words.proofs.unit_cap.Reads as unit-cap-reads
 use Rattle.words.proofs.unit_res.Reads as unit-res-reads

@@ -1,7 +1,6 @@
 -- The two functions are right together: a stage takes the least that its terminals ask, a terminal's time is given or is that of the stage it drives. The
--- links lead to every node of the stage, for those that they pass over are of other stages. Each call goes to a later node, so the nodes that remain fall.
+-- links lead to every terminal of the stage, for they pass over none. Each call goes to a later node, so the nodes that remain fall.
 use mathlib.Core.Path.{_≡_, ap, sym, _∙_}
-use mathlib.Core.Logic.{⊎-elim}
 use mathlib.Core.List.{List}
 use native.Mathlib.Omega.{arith}
 use lib.IntN.{ℤ, pos, _-ℤ_}
@@ -10,10 +9,9 @@ use mir.Facts.{toZ-ofZ}
 use mir.Syntax.{w64}
 use mir.Val.{toZ, ofZ, SFits}
 use borrow.Author.Needs.{needs, sfits-of}
-use Rattle.rules.specs.Tree.{isTerminal}
 use Rattle.words.specs.declared.Node.{Node}
 use Rattle.required.specs.Timed.{Timed}
-use Rattle.required.proofs.Loop.{sizes, entered, LeastSoFar, required-start, required-end, after-root, onward, required-skip, required-take, asked-fine}
+use Rattle.required.proofs.Loop.{sizes, entered, LeastSoFar, required-start, required-end, after-root, onward, required-take, asked-fine}
 use Rattle.required.proofs.Loop.{at-steiner, at-sink, at-buffer, buffer-root}
 use Prim.Native.Nat.{ℕ, _+_, _-_, _*_, _<_}
 use borrow.Fn.Kinds.{In}
@@ -24,7 +22,6 @@ use Rattle.required.proofs.+stage_required+terminal_required.Lts-stage_
 use Rattle.required.proofs.terminal_required.Reads as terminal-required
 use Rattle.required.proofs.terminal_required.Kinds as terminal-required-kinds
 use Rattle.required.proofs.+stage_required+terminal_required.Lts-terminal_required as terminal-required-lts
-use Rattle.required.proofs.is_terminal.Reads as is-terminal-reads
 use Rattle.required.proofs.less.Reads as less-reads
 use Rattle.required.proofs.earlier.Reads as earlier-reads
 use Rattle.words.proofs.node_at.Reads as node-at-reads
@@ -76,8 +73,6 @@ abbrev stage-required-claims : ℕ → stage-required-lts.Claims
 stage-required-claims t = (
   node-at-reads.Asked,
   node-at-reads.Learnt,
-  is-terminal-reads.Asked,
-  is-terminal-reads.Learnt,
   terminal-required-below t,
   terminal-required.Post,
   less-reads.Asked,
@@ -136,44 +131,38 @@ stage-required-node-at-requires t c κs =
     let (plan, T) = s .pre .1 .0 in
     (s .args .nodes, T .layers, T .held, c .before .loop .inv plan T .some, c .loop-test .taken)
 
-stage-required-is-terminal-requires :
-    (t : ℕ) → stage-required-lts.Need-is-terminal-requires (stage-required-claims t) (stage-required-at t) stage-required.Post Inv-loop μ-loop
-stage-required-is-terminal-requires t c κs = search needs
-
 stage-required-terminal-required-requires :
     (t : ℕ) → stage-required-lts.Need-terminal-required-requires (stage-required-claims t) (stage-required-at t) stage-required.Post Inv-loop μ-loop
 stage-required-terminal-required-requires t c κs =
-    let s = c .before .before .before .before .before .before .before .before .before .before .before .before in
+    let s = c .before .before .before .before .before .before .before .before .before .before in
     let (plan, T) = s .pre .1 .0 in
-    let g = c .before .before .before .before .loop .inv plan T in
-    let b = c .before .before .before .loop-test .taken in
+    let g = c .before .before .loop .inv plan T in
+    let b = c .before .loop-test .taken in
     let l = after-root T (s .pre .1 .1) (s .pre .1 .2) g b in
-    (omega (arith, s .pre .0), ((plan, T), g .some, b, ap (λ (r : Node). r .kind) (c .before .before .node-at .ensures)))
+    (omega (arith, s .pre .0), ((plan, T), g .some, b, ap (λ (r : Node). r .kind) (c .node-at .ensures)))
 
 stage-required-mul-less : (t : ℕ) → stage-required-lts.Need-mul-less (stage-required-claims t) (stage-required-at t) stage-required.Post Inv-loop μ-loop
 stage-required-mul-less t c =
-    let s = c .before .before .before .before .before .before .before .before .before .before .before .before .before in
+    let s = c .before .before .before .before .before .before .before .before .before .before .before in
     let z = sizes (s .pre .1 .0 .1) in
-    omega (arith, c .before .before .before .before .loop-test .taken)
+    omega (arith, c .before .before .loop-test .taken)
 
 stage-required-shared-slice-read-less :
     (t : ℕ) → stage-required-lts.Need-shared-slice-read-less (stage-required-claims t) (stage-required-at t) stage-required.Post Inv-loop μ-loop
 stage-required-shared-slice-read-less t c =
-    let s = c .before .before .before .before .before .before .before .before .before .before .before .before .before .before in
+    let s = c .before .before .before .before .before .before .before .before .before .before .before .before in
     let z = sizes (s .pre .1 .0 .1) in
-    omega (arith, c .before .before .before .before .before .loop-test .taken)
+    omega (arith, c .before .before .before .loop-test .taken)
 
 stage-required-less-requires :
     (t : ℕ) → stage-required-lts.Need-less-requires (stage-required-claims t) (stage-required-at t) stage-required.Post Inv-loop μ-loop
 stage-required-less-requires t c κs =
-    let s = c .before .before .before .before .before .before .before .before .before .before .before .before .before .before in
+    let s = c .before .before .before .before .before .before .before .before .before .before .before .before in
     let (plan, T) = s .pre .1 .0 in
     let b = c .before .terminal-required in
     let eb : toZ w64 (ofZ w64 (b .result)) ≡ b .result = toZ-ofZ (sfits-of (b .ok)) in
-    let l = c .before .before .before .before .before .before .loop in
-    let v = c .before .before .before .before .before .loop-test .taken in
-    let k = c .before .before .before .is-terminal .ensures ∙ ap (λ (r : Node). isTerminal (r .kind)) (c .before .before .before .before .node-at .ensures) in
-    rw eb (asked-fine T (s .pre .1 .1) (s .pre .1 .2) (l .inv plan T) v (sym k ∙ c .before .before .if1 .taken) (b .ensures plan T))
+    let l = c .before .before .before .before .loop in
+    rw eb (asked-fine T (s .pre .1 .1) (s .pre .1 .2) (l .inv plan T) (c .before .before .before .loop-test .taken) (b .ensures plan T))
 
 stage-required-earlier-requires :
     (t : ℕ) → stage-required-lts.Need-earlier-requires (stage-required-claims t) (stage-required-at t) stage-required.Post Inv-loop μ-loop
@@ -181,40 +170,37 @@ stage-required-earlier-requires t c κs = search needs
 
 stage-required-mul-j-3 : (t : ℕ) → stage-required-lts.Need-mul-j-3 (stage-required-claims t) (stage-required-at t) stage-required.Post Inv-loop μ-loop
 stage-required-mul-j-3 t c =
-    let s = c .before .before .before .before .before .before .before .before .before .before .before .before in
+    let s = c .before .before .before .before .before .before .before .before .before .before .before .before .before .before in
     let z = sizes (s .pre .1 .0 .1) in
-    omega (arith, c .before .before .before .loop-test .taken)
+    omega (arith, c .before .before .before .before .before .loop-test .taken)
 
 stage-required-shared-slice-read-j-3 :
     (t : ℕ) → stage-required-lts.Need-shared-slice-read-j-3 (stage-required-claims t) (stage-required-at t) stage-required.Post Inv-loop μ-loop
 stage-required-shared-slice-read-j-3 t c =
-    let s = c .before .before .before .before .before .before .before .before .before .before .before .before .before in
+    let s = c .before .before .before .before .before .before .before .before .before .before .before .before .before .before .before in
     let z = sizes (s .pre .1 .0 .1) in
-    omega (arith, c .before .before .before .before .loop-test .taken)
+    omega (arith, c .before .before .before .before .before .before .loop-test .taken)
 
 stage-required-loop-less : (t : ℕ) → stage-required-lts.Need-loop-less (stage-required-claims t) (stage-required-at t) stage-required.Post Inv-loop μ-loop
 stage-required-loop-less t c =
-    let s = c .before .before .before .before .before .before .before .before .before .before .before .before .before in
+    let s = c .before .before .before .before .before .before .before .before .before .before .before .before .before .before .before in
     let (plan, T) = s .pre .1 .0 in
-    let b = c .before .before .before .before .loop-test .taken in
-    let l = onward T (s .pre .1 .1) (s .pre .1 .2) (c .before .before .before .before .before .loop .inv plan T) b in
+    let b = c .before .before .before .before .before .before .loop-test .taken in
+    let l = onward T (s .pre .1 .1) (s .pre .1 .2) (c .before .before .before .before .before .before .before .loop .inv plan T) b in
     omega arith
 
 stage-required-loop-again : (t : ℕ) → stage-required-lts.Need-loop-again (stage-required-claims t) (stage-required-at t) stage-required.Post Inv-loop μ-loop
 stage-required-loop-again t c =
-    let s = c .before .before .before .before .before .before .before .before .before .before .before .before .before in
-    let l = c .before .before .before .before .before .loop in
-    let b = c .before .before .before .before .loop-test .taken in
-    let k = c .before .before .is-terminal .ensures ∙ ap (λ (r : Node). isTerminal (r .kind)) (c .before .before .before .node-at .ensures) in
-    let h = s .pre .1 .1 in
-    let e = s .pre .1 .2 in
-    λ plan T. ⊎-elim
-    (λ w. rw (w .5) (rw (toZ-ofZ (sfits-of (w .4 .ok))) (rw (w .4 .ensures)
-    (rw (toZ-ofZ {w = w64} {z = w .3 .result} (sfits-of (w .3 .ok)) ∙ w .3 .ensures ∙
-    ap (λ (z : ℤ). z -ℤ pos (getD (s .args .delay .now) (l .j) 0)) (toZ-ofZ {w = w64} {z = w .1 .result} (sfits-of (w .1 .ok))))
-    (required-take T h e (l .inv plan T) b (sym k ∙ w .0 .taken) (w .1 .ensures plan T))))))
-    (λ w. rw (w .1) (required-skip T h e (l .inv plan T) b (sym k ∙ w .0 .left)))
-    (c .before .if1 .came)
+    let s = c .before .before .before .before .before .before .before .before .before .before .before .before .before .before .before in
+    let l = c .before .before .before .before .before .before .before .loop in
+    let b = c .before .before .before .before .before .before .loop-test .taken in
+    let terminal = c .before .before .before .before .terminal-required in
+    let taken = c .before .before .less in
+    let least = c .before .earlier in
+    λ plan T. rw (toZ-ofZ (sfits-of (least .ok))) (rw (least .ensures)
+    (rw (toZ-ofZ {w = w64} {z = taken .result} (sfits-of (taken .ok)) ∙ taken .ensures ∙
+    ap (λ (z : ℤ). z -ℤ pos (getD (s .args .delay .now) (l .j) 0)) (toZ-ofZ {w = w64} {z = terminal .result} (sfits-of (terminal .ok))))
+    (required-take T (s .pre .1 .1) (s .pre .1 .2) (l .inv plan T) b (terminal .ensures plan T))))
 
 stage-required-returns : (t : ℕ) → stage-required-lts.Need-returns (stage-required-claims t) (stage-required-at t) stage-required.Post Inv-loop μ-loop
 stage-required-returns t c =
@@ -267,7 +253,6 @@ pub +stage-required+terminal-required-spec : {M : Type 1} → statement M
     (stage-required-shared-slice-read-j-2 t)
     (stage-required-loop-holds t)
     (stage-required-node-at-requires t)
-    (stage-required-is-terminal-requires t)
     (stage-required-terminal-required-requires t)
     (stage-required-mul-less t)
     (stage-required-shared-slice-read-less t)

@@ -1,4 +1,4 @@
--- `slack_by` is right: the links hold the nodes of each stage, so the driver's required time is that of stage 0, and slack is that minus the arrival time.
+-- `slack_by` is right: the links hold the terminals of each stage, so the driver's required time is that of stage 0, and slack is that minus the arrival time.
 use borrow.Author.Needs.{needs, sfits-of}
 use mathlib.Core.Path.{_≡_, refl, ap, _∙_}
 use mathlib.Core.List.{List}
@@ -14,13 +14,12 @@ use Rattle.words.specs.Held.{held-accepted}
 use Rattle.tree.specs.Plans.{Fitting}
 use Rattle.delays.specs.Delayed.{PlanDelays}
 use Rattle.required.specs.Timed.{Timed}
-use Rattle.required.specs.Links.{stage-links}
 use Rattle.timing.specs.Slack.{slack-is, slack-difference, drives-zero}
 use Rattle.timing.proofs.slack_by.Statement.{statement}
 use Rattle.timing.proofs.slack_by.Tie as tie
 use Rattle.timing.proofs.slack_by.Reads as reads
 use Rattle.timing.proofs.slack_by.Lts as lts
-use Rattle.fanout.proofs.link.Reads as link-reads
+use Rattle.required.proofs.link_terminals.Reads as link-terminals-reads
 use Rattle.required.proofs.stage_required.Reads as stage-required-reads
 use Rattle.timing.proofs.minus.Reads as minus-reads
 use Rattle.words.proofs.arrival.Reads as arrival-reads
@@ -31,14 +30,14 @@ begin c = c .before .before .before .before .before .before .before .before .bef
 -- What the required times rest on, for each plan with these delays.
 timed : (c : tie.After-next3) (plan : List ℕ) → Fitting (netIn (begin c .args .words .now)) plan
     → PlanDelays (netIn (begin c .args .words .now)) plan (begin c .args .delay .now)
-    → Timed (begin c .args .words .now) (begin c .args .nodes) (begin c .args .below .now) (c .before .before .before .before .link .last .1 .1 .0)
-    (c .before .before .before .before .link .last .1 .1 .1 .0) (begin c .args .delay .now) plan
+    → Timed (begin c .args .words .now) (begin c .args .nodes) (begin c .args .below .now) (c .before .before .before .before .link-terminals .last .1 .1 .1 .0)
+    (c .before .before .before .before .link-terminals .last .1 .1 .1 .1 .0) (begin c .args .delay .now) plan
 timed c plan F D = record {
   layers = _;
   held = begin c .pre .0 .1;
   stage = begin c .args .stage .now;
   staged = begin c .pre .1;
-  linked = c .before .before .before .before .link .ensures;
+  linked = c .before .before .before .before .link-terminals .ensures;
   delayed = D;
   fits = F;
 }
@@ -49,21 +48,16 @@ time-is : (c : tie.After-stage-required) (plan : List ℕ) → Fitting (netIn (b
     → c .stage-required .result ≡ required (netIn (begin (c .before) .args .words .now)) plan 0
 time-is c plan F D = c .stage-required .ensures plan (timed (c .before) plan F D) ∙ ap (required _ plan) (drives-zero _)
 
-add-link : tie.Need-add-link
-add-link c = let H = c .before .before .before .before .pre .0 .1 in omega (arith, H .nodes-are, held-accepted H .few-nodes)
+slice-aggregate-link-terminals : tie.Need-slice-aggregate-link-terminals
+slice-aggregate-link-terminals c = search needs
 
-slice-aggregate-link : tie.Need-slice-aggregate-link
-slice-aggregate-link c = search needs
+slice-aggregate-link-terminals-2 : tie.Need-slice-aggregate-link-terminals-2
+slice-aggregate-link-terminals-2 c = search needs
 
-slice-aggregate-link-2 : tie.Need-slice-aggregate-link-2
-slice-aggregate-link-2 c = search needs
-
-link-requires : tie.Need-link-requires
-link-requires c κs =
-    stage-links (c .before .before .before .before .before .before .pre .0 .1) (c .before .before .before .before .before .before .pre .1) (omega (
-      arith,
-      length-replicate {A = ℕ} (maxNodes + 1) 0,
-    )) (omega (arith, length-replicate {A = ℕ} (maxNodes + 1) 0))
+link-terminals-requires : tie.Need-link-terminals-requires
+link-terminals-requires c κs =
+    let s = c .before .before .before .before .before .before .pre in
+    (s .0, (_, s .1), refl, length-replicate {A = ℕ} (maxNodes + 1) 0)
 
 slice-aggregate-stage-required : tie.Need-slice-aggregate-stage-required
 slice-aggregate-stage-required c = search needs
@@ -96,10 +90,9 @@ pub slack-by-spec : {M : Type 1} → statement M
 slack-by-spec =
     tie.close
     (tie.spec
-    add-link
-    slice-aggregate-link
-    slice-aggregate-link-2
-    link-requires
+    slice-aggregate-link-terminals
+    slice-aggregate-link-terminals-2
+    link-terminals-requires
     slice-aggregate-stage-required
     slice-aggregate-stage-required-2
     stage-required-requires

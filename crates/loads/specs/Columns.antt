@@ -8,9 +8,10 @@ use native.Mathlib.Decide.{decLt}
 use lib.ListN.{length, getD, replicate, length-replicate, getD-replicate, List·getD-eq-default}
 use Rattle.rules.specs.declared.Kind.the-variants.{Steiner}
 use Rattle.rules.specs.Tree.{Net, at, stageOf, stages, layerCount, on}
-use Rattle.rules.specs.Bytes.{maxStages}
+use Rattle.rules.specs.Bytes.{maxNodes, maxStages}
 use Rattle.facts.specs.Accepted.{Accepted}
-use Rattle.tree.specs.Staged.{stageBelow, stage-is-below, below-is}
+use Rattle.facts.specs.Stages.{stage-below}
+use Rattle.tree.specs.Staged.{Staged, stageBelow, stage-is-below, below-is, wire-below}
 use Rattle.tree.specs.Plans.{Fitting}
 
 -- The columns of each stage stand for layers that there are.
@@ -45,3 +46,34 @@ module _ {n : Net} (A : Accepted n) (first : List ℕ) {j l : ℕ} (h : 1 ≤ j)
 
   pub layer-below : at n j .kind ≡ Steiner → on first (stageBelow n j) ≡ l
   layer-below s = ap (on first) (below-is A j h ∙ rw s refl) ∙ sym e
+
+-- The stage of edge j as code looks it up, which is that of the wire below the upper end of the edge, and the first layer of that stage.
+pub record Staging (n : Net) (below first : List ℕ) (w j : ℕ) : Type 0 where
+  pub parent-lower : at n j .parent < j
+  pub node-in : j ≤ maxNodes
+  pub below-long : length below ≡ maxNodes + 1
+  pub each-in : (i : ℕ) → i ≤ j → getD below i 0 < maxStages
+  pub first-in : (i : ℕ) → i ≤ j → getD below i 0 < length first
+  pub stage-is : getD below (at n j .parent) 0 ≡ stageOf n j
+  pub layer-is : {l : ℕ} → l ≡ getD first (getD below (at n j .parent) 0) 0 → l ≡ on first (stageOf n j)
+  pub layer-in : {l : ℕ} → l ≡ getD first (getD below (at n j .parent) 0) 0 → l + w ≤ layerCount n
+
+pub staging : {n : Net} → Accepted n → {stage below first : List ℕ} {w j : ℕ} → Staged n stage below → Columns n first w → 1 ≤ j → j ≤ length (n .nodes)
+    → Staging n below first w j
+staging {n} A {stage} {below} {first} {w} {j} S C a b =
+    let lower = A .parent-lower j a in
+    let e : getD below (at n j .parent) 0 ≡ stageOf n j = S .below-is (at n j .parent) (omega arith) ∙ sym (stage-is-below A j a) in
+    let h : getD below (at n j .parent) 0 < stages n = omega (arith, stage-below A j a b) in
+    record {
+      parent-lower = lower;
+      node-in = omega (arith, A .few-nodes);
+      below-long = S .below-long;
+      each-in = λ i k. omega (arith, low i k, A .few-stages);
+      first-in = λ i k. omega (arith, low i k, C .long);
+      stage-is = e;
+      layer-is = λ q. q ∙ ap (on first) e;
+      layer-in = λ q. omega (arith, C .inside (getD below (at n j .parent) 0) h);
+    }
+  where
+    low : (i : ℕ) → i ≤ j → getD below i 0 < stages n
+    low i k = let c : i ≤ length (n .nodes) = omega arith in omega (arith, S .below-is i c, wire-below A i c)

@@ -11,7 +11,7 @@ use Rattle.facts.specs.Accepted.{Accepted}
 use Rattle.facts.specs.Ranges.{maxEdgeRes, maxEdgeCap, edge-res-in, edge-cap-in}
 use Rattle.facts.specs.Loads.{maxLoad, addedLoad, lower-in}
 use Rattle.slices.specs.Rows.{entry}
-use Rattle.delays.specs.Tables.{NodeRow}
+use Rattle.loads.specs.Tables.{NodeRow}
 
 -- The load at the lower end of an edge to a node of this kind: what is below a Steiner point, a terminal's input capacitance.
 abbrev pub lowerOf : Kind → ℕ → ℕ

@@ -18,9 +18,9 @@ use Rattle.facts.specs.Accepted.{Accepted}
 use Rattle.facts.specs.Loads.{maxLoad, addedLoad, childLoad, load-children, load-after, load-in}
 use Rattle.slices.specs.Rows.{entry, RowSet, row-kept}
 use Rattle.tree.specs.Staged.{stageBelow}
-use Rattle.delays.specs.Tables.{NodeRow, RowMost}
-use Rattle.delays.specs.Columns.{zeros, layer-above, layer-below}
-use Rattle.delays.specs.Edges.{addedOn, EdgeIn, LoadAt, added-is, edge-rows}
+use Rattle.loads.specs.Tables.{NodeRow, RowMost}
+use Rattle.loads.specs.Columns.{zeros, layer-above, layer-below}
+use Rattle.loads.specs.Edges.{addedOn, EdgeIn, LoadAt, added-is, edge-rows}
 
 -- Entry i * w + c is the load at node i, on the layer that column c of the stage below i stands for.
 pub record Loaded (n : Net) (first : List ℕ) (w : ℕ) (table : List ℕ) : Type 0 where

@@ -5,13 +5,14 @@ use native.Mathlib.Omega.{arith}
 use Rattle.words.specs.Words.{netIn}
 use Rattle.words.specs.Held.{held-accepted}
 use Rattle.slices.specs.Rows.{entry, Setting, setting-start, setting-end}
-use Rattle.delays.specs.Edges.{addedOn}
-use Rattle.delays.proofs.Rows.{LoadAdded, load-added, columns-few}
-use Rattle.delays.proofs.add_loads.Statement.{statement}
-use Rattle.delays.proofs.add_loads.Tie as tie
-use Rattle.delays.proofs.add_loads.Reads as reads
-use Rattle.delays.proofs.add_loads.Lts as lts
-use Rattle.delays.proofs.lower_load.Reads as lower-load-reads
+use Rattle.loads.specs.Edges.{addedOn}
+use Rattle.loads.specs.Tables.{columns-few}
+use Rattle.loads.proofs.Rows.{LoadAdded, load-added}
+use Rattle.loads.proofs.add_loads.Statement.{statement}
+use Rattle.loads.proofs.add_loads.Tie as tie
+use Rattle.loads.proofs.add_loads.Reads as reads
+use Rattle.loads.proofs.add_loads.Lts as lts
+use Rattle.loads.proofs.lower_load.Reads as lower-load-reads
 use Rattle.words.proofs.unit_cap.Reads as unit-cap-reads
 
 abbrev Inv-loop : tie.InvT-loop

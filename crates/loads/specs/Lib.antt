@@ -1,0 +1,5 @@
+pub mod Tables
+pub mod Columns
+pub mod Edges
+pub mod Loaded
+pub mod Counted
