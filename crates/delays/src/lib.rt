@@ -1,5 +1,5 @@
-// The delay from the gate input of its stage to each node (01, Timing rule; source 001, section 2), by the loads (`loads::loads`) and in tables of the same rows
-// and columns: judging has one column, the plan's layer, and planning one for each layer.
+// The delay from the gate input of its stage to each node (01, Timing rule; source 001, section 2), by the loads (`loads::loads`) and in tables of the same
+// rows and columns: judging has one column, the plan's layer, and planning one for each layer.
 use loads::NODE_ROWS;
 use loads::loads;
 use loads::lower_load;

@@ -1,12 +1,13 @@
 -- The links, made from the last number to the first.
-use mathlib.Core.Path.{_≡_, refl, sym, _∙_, subst}
+use mathlib.Core.Path.{_≡_, refl, sym, _∙_}
 use mathlib.Core.List.{List}
 use mathlib.Core.Logic.{_⊎_, inl, inr}
-use Prim.Native.Nat.{ℕ, suc, _+_, _-_, _≤_, _<_}
+use Prim.Native.Nat.{ℕ, _+_, _-_, _≤_, _<_}
 use native.Mathlib.Omega.{arith}
 use lib.ListN.{length, getD, set, length-set}
 use lib.Seq.{getD-set-same, getD-set-other}
 use Rattle.laws.specs.Booleans.{same-or}
+use Rattle.laws.specs.Links.{NextOf, LinkedAfter, link-take}
 use Rattle.fanout.specs.Contracts.{NextOwned, LinkIn, Unlinked, Linked}
 
 -- Nothing belongs to any: one number after the other.
@@ -29,14 +30,17 @@ pub still-room : {owner before next first : List ℕ} {count : ℕ} → LinkIn o
     → LinkIn owner first next count
 still-room I U = record { owners = I .owners; firsts = omega (arith, I .firsts, U .long); nexts = I .nexts; lower = I .lower }
 
--- Those from j on are linked: `first` has for each number the first of them that belongs to it. Number 0, which belongs to none, is left out.
+-- What belongs to i by `owner`.
+abbrev Owned : List ℕ → ℕ → ℕ → ℕ → Type 0
+Owned owner count i m = (m < count) × (getD owner m 0 ≡ i)
+
+-- Those from j on are linked. Number 0, which belongs to none, is left out.
 pub record Linking (owner first₀ next₀ : List ℕ) (count : ℕ) (first next : List ℕ) (j : ℕ) : Type 0 where
   pub some : 0 < count → 0 < j
   pub most : j ≤ count
   pub first-long : length first ≡ length first₀
   pub next-long : length next ≡ length next₀
-  pub first-is : (i : ℕ) → i < count → NextOwned owner count i j (getD first i 0)
-  pub next-is : (m : ℕ) → 0 < m → j ≤ m → m < count → NextOwned owner count (getD owner m 0) (suc m) (getD next m 0)
+  pub links : LinkedAfter (Owned owner count) count count first next (j - 1)
 
 pub linking-start : {owner before first next : List ℕ} {count : ℕ} → Unlinked before first count count → Linking owner first next count first next count
 linking-start {count = count} U = record {
@@ -44,8 +48,24 @@ linking-start {count = count} U = record {
   most = omega arith;
   first-long = refl;
   next-long = refl;
-  first-is = λ i h. rw (U .none i h) (record { low = omega arith; most = omega arith; owned = λ k. absurd (omega arith); passed = λ m a b e. omega arith });
-  next-is = λ m p a b. absurd (omega arith);
+  links = record {
+    first-is = λ i h. rw (U .none i h) (record {
+      low = omega arith;
+      most = omega arith;
+      owned = λ k. absurd (omega arith);
+      passed = λ m a b o. omega arith;
+    });
+    next-is = λ o b. absurd (omega (arith, o .0));
+  };
+}
+
+-- The first after k that belongs to i is the first from any later number on that does not pass it.
+next-owned : {owner : List ℕ} {count i k j r : ℕ} → k < j → j ≤ r → NextOf (Owned owner count) count i k r → NextOwned owner count i j r
+next-owned a b N = record {
+  low = b;
+  most = N .most;
+  owned = λ h. N .owned h .1;
+  passed = λ m u v e. N .passed m (omega arith) v (omega (arith, N .most), e);
 }
 
 module _ {owner first₀ next₀ : List ℕ} {count : ℕ} {first next : List ℕ} {j : ℕ} (I : LinkIn owner first₀ next₀ count)
@@ -63,60 +83,23 @@ module _ {owner first₀ next₀ : List ℕ} {count : ℕ} {first next : List �
   linking-more h = record {
     some = λ p. omega arith;
     most = omega (arith, L .most);
-    first-long = length-set first d (j - 1) ∙ L .first-long;
-    next-long = length-set next (j - 1) (getD first d 0) ∙ L .next-long;
-    first-is = λ i a. first-of i a (same-or d i);
-    next-is = λ m p a b. next-of m p a b (same-or (j - 1) m);
+    first-long = length-set first (getD owner (j - 1) 0) (j - 1) ∙ L .first-long;
+    next-long = length-set next (j - 1) (getD first (getD owner (j - 1) 0) 0) ∙ L .next-long;
+    links = link-take (L .links) (omega arith) (omega (arith, L .most)) (omega (arith, owner-before h, L .most)) (owner-inside h)
+        (omega (arith, L .most, L .next-long, I .nexts)) (omega (arith, L .most), refl) (λ i o. sym (o .1));
   }
-    where
-      d : ℕ
-      d = getD owner (j - 1) 0
 
-      first-of : (i : ℕ) → i < count → (i ≡ d) ⊎ (i ≡ d → ⊥) → NextOwned owner count i (j - 1) (getD (set first d (j - 1)) i 0)
-      first-of i a (inl e) = rw (e, getD-set-same first d (j - 1) 0 (omega (arith, L .first-long, I .firsts))) (record {
-        low = omega arith;
-        most = omega (arith, L .most);
-        owned = λ k. refl;
-        passed = λ m p q. absurd (omega arith);
-      })
-      first-of i a (inr ne) = let N = L .first-is i a in rw (getD-set-other first d i (j - 1) 0 ne) (record {
-        low = omega (arith, N .low);
-        most = N .most;
-        owned = N .owned;
-        passed = λ m p q e. passed m p q e (same-or (j - 1) m);
-      })
-        where
-          passed : (m : ℕ) → j - 1 ≤ m → m < getD first i 0 → getD owner m 0 ≡ i → (m ≡ j - 1) ⊎ (m ≡ j - 1 → ⊥) → ⊥
-          passed m p q e (inl s) = ne (sym (rw s at e))
-          passed m p q e (inr n) = L .first-is i a .passed m (omega arith) q e
-
-      next-of : (m : ℕ) → 0 < m → j - 1 ≤ m → m < count → (m ≡ j - 1) ⊎ (m ≡ j - 1 → ⊥)
-          → NextOwned owner count (getD owner m 0) (suc m) (getD (set next (j - 1) (getD first d 0)) m 0)
-      next-of m p a b (inl e) =
-          let s : j ≡ suc (j - 1) = omega arith in
-          rw (e, getD-set-same next (j - 1) (getD first d 0) 0 (omega (arith, L .next-long, I .nexts, L .most)))
-          (subst (λ k. NextOwned owner count d k (getD first d 0)) s (L .first-is d (omega (arith, owner-before h, L .most))))
-      next-of m p a b (inr n) = rw (getD-set-other next (j - 1) m (getD first d 0) 0 n) (L .next-is m p (omega arith) b)
-
-  -- A owner has a lower number, so a stage drives none of the count up to itself.
+  -- An owner has a lower number, so a stage drives none of the count up to itself.
   pub linking-end : j ≤ 1 → Linked owner first next count
   linking-end h = record {
     firsts = omega (arith, I .firsts, L .first-long);
     nexts = omega (arith, I .nexts, L .next-long);
-    first-is = λ i a. from-next i a (L .some (omega arith));
-    next-is = λ m p b. L .next-is m p (omega arith) b;
+    first-is = λ i a. let N = L .links .first-is i a in next-owned (omega arith) (above i (getD first i 0) a N (same-or count (getD first i 0))) N;
+    next-is = λ m p b. let N = L .links .next-is (b, refl) (omega arith) in next-owned (omega arith) (N .low) N;
   }
     where
-      above : (i r : ℕ) → i < count → 0 < j → NextOwned owner count i j r → (r ≡ count) ⊎ (r ≡ count → ⊥) → i < r
-      above i r a s N (inl e) = omega arith
-      above i r a s N (inr ne) =
-          let inside : r < count = omega (arith, N .most) in
-          omega (arith, N .owned inside, I .lower r (omega (arith, N .low)) inside)
-
-      from-next : (i : ℕ) → i < count → 0 < j → NextOwned owner count i (suc i) (getD first i 0)
-      from-next i a s = let N = L .first-is i a in record {
-        low = above i (getD first i 0) a s N (same-or count (getD first i 0));
-        most = N .most;
-        owned = N .owned;
-        passed = λ m p q. N .passed m (omega arith) q;
-      }
+      above : (i r : ℕ) → i < count → NextOf (Owned owner count) count i (j - 1) r → (r ≡ count) ⊎ (r ≡ count → ⊥) → i < r
+      above i r a N (inl e) = omega arith
+      above i r a N (inr ne) =
+          let o = N .owned (omega (arith, N .most)) in
+          omega (arith, o .1, I .lower r (omega (arith, N .low)) (o .0))

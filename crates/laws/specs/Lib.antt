@@ -9,3 +9,4 @@ pub mod Extremes
 pub mod Passing
 pub mod Appending
 pub mod Quotients
+pub mod Links

@@ -89,7 +89,7 @@ pub fn loads(
         ⌝ }
     ensures { λ edges. ⌜
         Loaded (netIn (now (words .entry))) (now (first .entry)) columns (now (load .exit)) ×
-        ((t : ℕ) → t < stages (netIn (now (words .entry))) → getD edges t 0 ≡ length (edgesOf (netIn (now (words .entry))) t)) ×
+        ((t : ℕ) → getD edges t 0 ≡ length (edgesOf (netIn (now (words .entry))) t)) ×
         (sum (map (λ t. getD edges t 0) (from 0 (stages (netIn (now (words .entry)))))) ≡ nodes)
         ⌝ }
 {

@@ -9,6 +9,7 @@ use lib.IntN.{ℤ, pos, _-ℤ_}
 use mir.Syntax.{w64}
 use mir.Val.{SFits}
 use Rattle.laws.specs.Basic.{minZ}
+use Rattle.laws.specs.Links.{NextOf}
 use Rattle.rules.specs.Tree.{Net, at, isRoot, isBuffer, root, drives, on}
 use Rattle.rules.specs.Bytes.{maxNodes, maxStages, maxTime}
 use Rattle.rules.specs.Timing.{terminalTime, required}
@@ -20,7 +21,7 @@ use Rattle.words.specs.Words.{netIn}
 use Rattle.words.specs.Held.{held-accepted}
 use Rattle.tree.specs.Staged.{stageBelow}
 use Rattle.delays.specs.Delayed.{delayTo}
-use Rattle.required.specs.Links.{NextTerminal}
+use Rattle.required.specs.Links.{noTerminal}
 use Rattle.required.specs.Timed.{Timed}
 use Rattle.required.specs.Scan.{TerminalsSoFar, terminals-start, terminals-jump, terminals-take, terminals-end, asked-is, asked-fits, delay-small}
 
@@ -68,11 +69,11 @@ module _ {w : List ℕ} {nodes : ℕ} {below first next delay plan : List ℕ} (
   }
 
   -- The loop comes along a link to the next terminal of the stage: those that the link passes over are none.
-  landed : {i k j : ℕ} {r : ℤ} → TerminalsSoFar (netIn w) plan (drives (netIn w) i) (suc k) r → NextTerminal (netIn w) (drives (netIn w) i) k j
-      → LeastSoFar w plan nodes i j r
+  landed : {i k j : ℕ} {r : ℤ} → TerminalsSoFar (netIn w) plan (drives (netIn w) i) (suc k) r
+      → NextOf (TerminalOf (netIn w)) noTerminal (drives (netIn w) i) k j → LeastSoFar w plan nodes i j r
   landed S N = record {
     some = omega (arith, N .low);
-    own = λ b. N .ends (inside b);
+    own = λ b. N .owned (omega (arith, sizes .nodes-in));
     scan = terminals-jump S (λ m u v d. N .passed m (omega arith) v d);
   }
 
@@ -87,8 +88,8 @@ module _ {w : List ℕ} {nodes : ℕ} {below first next delay plan : List ℕ} (
     pub required-start : LeastSoFar w plan nodes i (getD first (getD below i 0) 0) (pos maxTime)
     required-start = landed (terminals-jump (terminals-start (netIn w) plan (drives (netIn w) i)) (λ m u v d. omega (arith, d .edge .after))) link
       where
-        link : NextTerminal (netIn w) (drives (netIn w) i) 0 (getD first (getD below i 0) 0)
-        link = rw (entered .is) (T .linked .first-is (drives (netIn w) i) (drives-below (netIn w) i (inside h)))
+        link : NextOf (TerminalOf (netIn w)) noTerminal (drives (netIn w) i) 0 (getD first (getD below i 0) 0)
+        link = rw (entered .is) (T .linked .links .first-is (drives (netIn w) i) (drives-below (netIn w) i (inside h)))
 
     module _ {j : ℕ} {r : ℤ} (g : LeastSoFar w plan nodes i j r) where
       -- After the last node the least is the required time of the stage.
@@ -102,7 +103,7 @@ module _ {w : List ℕ} {nodes : ℕ} {below first next delay plan : List ℕ} (
 
         -- The link from it leads on.
         pub onward : j < getD next j 0
-        onward = T .linked .next-is (g .own b) .low
+        onward = T .linked .links .next-is (g .own b) (g .some) .low
 
         -- The delay to it stands in the table,
         delay-is : getD delay j 0 ≡ delayTo (netIn w) (on plan (drives (netIn w) i)) j
@@ -116,7 +117,8 @@ module _ {w : List ℕ} {nodes : ℕ} {below first next delay plan : List ℕ} (
           -- and what it asks is taken.
           pub required-take : LeastSoFar w plan nodes i (getD next j 0) (minZ r (z -ℤ pos (getD delay j 0)))
           required-take =
-              landed (terminals-take (g .scan) (g .own b) (ap (λ (k : ℕ). z -ℤ pos k) delay-is ∙ asked-is A plan (g .own b) ez)) (T .linked .next-is (g .own b))
+              landed (terminals-take (g .scan) (g .own b) (ap (λ (k : ℕ). z -ℤ pos k) delay-is ∙ asked-is A plan (g .own b) ez))
+              (T .linked .links .next-is (g .own b) (g .some))
 
 -- The required time of a terminal, by its kind.
 module _ (n : Net) (plan : List ℕ) (j : ℕ) where

@@ -2,8 +2,9 @@
 -- No other node is linked, for a stage's required time rests on its terminals alone (01, Timing rule).
 use mathlib.Core.Path.{_≡_}
 use mathlib.Core.List.{List}
-use Prim.Native.Nat.{ℕ, _+_, _≤_, _<_}
-use lib.ListN.{length, getD}
+use Prim.Native.Nat.{ℕ, _+_, _≤_}
+use lib.ListN.{length}
+use Rattle.laws.specs.Links.{LinkedAfter}
 use Rattle.rules.specs.Tree.{Net, stages}
 use Rattle.rules.specs.Bytes.{maxNodes, maxStages}
 use Rattle.facts.specs.Stages.{TerminalOf}
@@ -12,15 +13,13 @@ use Rattle.facts.specs.Stages.{TerminalOf}
 abbrev pub noTerminal : ℕ
 noTerminal = maxNodes + 1
 
--- r is the first terminal of stage t after node j, or beyond all nodes.
-pub record NextTerminal (n : Net) (t j r : ℕ) : Type 0 where
-  pub low : j < r
-  pub ends : r ≤ length (n .nodes) → TerminalOf n t r
-  pub passed : (m : ℕ) → j < m → m < r → TerminalOf n t m → ⊥
-
--- The links of all stages: the first terminal of a stage comes after the driver, which is none.
-pub record TerminalsLinked (n : Net) (first next : List ℕ) : Type 0 where
+-- The terminals after node j are linked.
+pub record TerminalsAfter (n : Net) (first next : List ℕ) (j : ℕ) : Type 0 where
+  pub most : j ≤ length (n .nodes)
   pub first-long : length first ≡ maxStages
   pub next-long : length next ≡ maxNodes + 1
-  pub first-is : (t : ℕ) → t < stages n → NextTerminal n t 0 (getD first t 0)
-  pub next-is : {t j : ℕ} → TerminalOf n t j → NextTerminal n t j (getD next j 0)
+  pub links : LinkedAfter (TerminalOf n) noTerminal (stages n) first next j
+
+-- All terminals: the driver is none.
+abbrev pub TerminalsLinked : Net → List ℕ → List ℕ → Type 0
+TerminalsLinked n first next = TerminalsAfter n first next 0

@@ -155,7 +155,7 @@ returns c =
     let A = held-accepted (s .0 .1) in
     let e : c .before .loop .j ≡ 0 = omega (arith, c .loop-test .left) in (
       loading-end A (c .before .loop .inv .0) e,
-      λ t h. counted-each (c .before .loop .inv .2) e t,
+      counted-each (c .before .loop .inv .2) e,
       counted-total (c .before .loop .inv .2) A e ∙ sym (s .0 .1 .nodes-are),
     )
 

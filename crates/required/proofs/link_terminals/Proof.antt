@@ -10,8 +10,8 @@ use Rattle.rules.specs.Bytes.{maxStages}
 use Rattle.words.specs.declared.Node.{Node}
 use Rattle.words.specs.Words.{netIn}
 use Rattle.words.specs.Held.{held-accepted}
-use Rattle.required.specs.Links.{noTerminal}
-use Rattle.required.proofs.Linking.{LinkedAfter, LinkPlaces, links-start, link-places, links-skip, links-take, links-end}
+use Rattle.required.specs.Links.{noTerminal, TerminalsAfter}
+use Rattle.required.proofs.Linking.{LinkPlaces, links-start, link-places, links-skip, links-take, links-end}
 use Rattle.required.proofs.link_terminals.Statement.{statement}
 use Rattle.required.proofs.link_terminals.Tie as tie
 use Rattle.required.proofs.link_terminals.Reads as reads
@@ -20,7 +20,7 @@ use Rattle.required.proofs.is_terminal.Reads as is-terminal-reads
 use Rattle.words.proofs.node_at.Reads as node-at-reads
 
 abbrev Inv-loop : tie.InvT-loop
-Inv-loop words nodes stage first₀ next₀ j₀ first next j = LinkedAfter (netIn words) first next j
+Inv-loop words nodes stage first₀ next₀ j₀ first next j = TerminalsAfter (netIn words) first next j
 
 abbrev μ-loop : tie.MeasureT-loop
 μ-loop words nodes stage first₀ next₀ j₀ first next j = j
