@@ -2,10 +2,10 @@
  *
  *     fuzz SEED SECONDS NET...
  *
- * Random nets are made from the nets in the files, from nets grown here, and from rubbish; vorphiel_check, vorphiel_judge and vorphiel_plan are called on
- * them with random plans, shares, tables and plan buffers, vorphiel_report on blocks of them, whole and damaged, and vorphiel_table_entries with random
- * numbers. After each call it is seen whether what the header promises came true. There is no second planner here: the calls are held against each other and
- * against the header (the comparison with a plain search is in tests/).
+ * Random nets are made from the nets in the files, from nets grown here, and from rubbish; vorphiel_check, vorphiel_judge and vorphiel_plan are called on them
+ * with random plans, shares, tables and plan buffers, vorphiel_report on blocks of them, whole and damaged, and vorphiel_table_entries with random numbers. A
+ * net without vias is tried in both editions, and via resistances are raised. After each call it is seen whether what the header promises came true. There is
+ * no second planner here: the calls are held against each other and against the header (the comparison with a plain search is in tests/).
  *
  * The library is a finished archive that no sanitizer has seen. So every buffer is lent flush with the start or the end of its pages, with pages that may not
  * be touched before and behind, and what is only to be read stands in pages that cannot be written: a stray read or write ends in a signal.
@@ -15,6 +15,7 @@
 #define _DEFAULT_SOURCE
 #include "vorphiel.h"
 
+#include <ctype.h>
 #include <errno.h>
 #include <inttypes.h>
 #include <signal.h>
@@ -28,7 +29,7 @@
 enum {
     MOST_BLOCK = 64 * 1024,  /* bytes of a block that is read */
     MOST_TRIED = MOST_BLOCK + 64, /* bytes of a block tried here */
-    MOST_NET = MOST_BLOCK,   /* bytes of a net tried here; the longest that can be accepted has 20,483 */
+    MOST_NET = MOST_BLOCK,   /* bytes of a net tried here; the longest that can be accepted has 20,515 */
     MOST_FIELDS = 600,       /* fields that are told apart in a net */
     MOST_PLACES = 64,        /* numbers in a field */
     MOST_TABLE = 48 * 1024,  /* entries of a table: more than enough for 64 stages at share 1/4 */
@@ -529,15 +530,25 @@ static void find_fields(const struct net *net, struct fields *found)
     }
 }
 
-/* The number of layers by the length of the first field. */
-static size_t layer_count(const struct net *net)
+/* The tag of a layers field, by edition. */
+enum { FIRST_EDITION = 1, SECOND_EDITION = 7 };
+
+/* The bytes of a layer: the two units, and in the second edition the via resistance. 0 for a tag that is not of layers. */
+static size_t layer_width(unsigned tag)
 {
-    return net->len < 3 ? 0 : (256 * (size_t)net->bytes[1] + net->bytes[2]) / 4;
+    return tag == FIRST_EDITION ? 4 : tag == SECOND_EDITION ? 6 : 0;
 }
 
-/* What a payload holds, by tag: u unit value, g gate resistance or input capacitance, i intrinsic delay, t time, p parent, l length, c cost. A capital: once for
- * each layer. */
-static const char *const LAYOUTS[] = {"", "UU", "git", "plC", "plCggi", "plCgt"};
+/* The number of layers by tag and length of the first field. */
+static size_t layer_count(const struct net *net)
+{
+    size_t width = net->len < 3 ? 0 : layer_width(net->bytes[0]);
+    return width == 0 ? 0 : (field_len(net->bytes) - 3) / width;
+}
+
+/* What a payload holds, by tag: u unit value, v via resistance, g gate resistance or input capacitance, i intrinsic delay, t time, p parent, l length, c cost.
+ * Capitals: all of them once for each layer. */
+static const char *const LAYOUTS[] = {"", "UU", "git", "plC", "plCggi", "plCgt", "", "UUV"};
 
 struct place {
     char what;
@@ -551,6 +562,7 @@ static struct place place_for(char what, size_t number)
     const int64_t time = 1000000000000000;
     switch (what) {
     case 'u': return (struct place){what, 0, 2, 1, 1000};
+    case 'v': return (struct place){what, 0, 2, 0, 1000};
     case 'g': return (struct place){what, 0, 4, 0, 100000};
     case 'i': return (struct place){what, 0, 4, 0, 1000000000};
     case 't': return (struct place){what, 0, 8, -time, time};
@@ -564,14 +576,17 @@ static struct place place_for(char what, size_t number)
 static size_t find_places(const struct net *net, size_t start, size_t end, size_t field, struct place *places)
 {
     size_t at = start + 3, count = 0, tag = net->bytes[start];
-    for (const char *next = tag < 6 ? LAYOUTS[tag] : ""; *next != '\0'; next++) {
-        int each_layer = *next == 'U' || *next == 'C';
-        struct place place = place_for(each_layer ? *next + 'a' - 'A' : *next, field == 0 ? 0 : field - 1);
-        for (size_t times = each_layer ? layer_count(net) : 1; times > 0 && at + place.width <= end && count < MOST_PLACES; times--) {
+    for (const char *next = tag < sizeof LAYOUTS / sizeof LAYOUTS[0] ? LAYOUTS[tag] : ""; *next != '\0';) {
+        size_t capitals = strspn(next, "UVC"), group = capitals > 0 ? capitals : 1;
+        for (size_t i = 0, all = group * (capitals > 0 ? layer_count(net) : 1); i < all; i++) {
+            struct place place = place_for((char)tolower(next[i % group]), field == 0 ? 0 : field - 1);
+            if (at + place.width > end || count == MOST_PLACES)
+                return count;
             place.at = at;
             places[count++] = place;
             at += place.width;
         }
+        next += group;
     }
     return count;
 }
@@ -588,6 +603,12 @@ static void write_number(struct net *net, const struct place *place, uint64_t va
 {
     for (size_t i = place->width; i > 0; i--, value >>= 8)
         net->bytes[place->at + i - 1] = (uint8_t)value;
+}
+
+static int in_range(const struct net *net, const struct place *place)
+{
+    int64_t value = (int64_t)read_number(net, place);
+    return value >= place->low && value <= place->high;
 }
 
 /* ---- Changes to a net ---- */
@@ -702,11 +723,62 @@ static void change_head(struct net *net)
     if (net->len - at < 3)
         return;
     if (one_in(2))
-        net->bytes[at] = (uint8_t)(one_in(8) ? any() : below(7));
+        net->bytes[at] = (uint8_t)(one_in(8) ? any() : below(8));
     else if (one_in(8))
         net->bytes[at + 1] = (uint8_t)any();
     else
-        net->bytes[at + 2] = (uint8_t)(net->bytes[at + 2] + (one_in(2) ? 4 : 1) * between(-3, 3));
+        net->bytes[at + 2] = (uint8_t)(net->bytes[at + 2] + (one_in(2) ? 1 : one_in(2) ? 4 : 6) * between(-3, 3));
+}
+
+/* The refusal that the layers field decides by itself, being the first: the head, its tag and length, the payload, the ranges. 0 if it has no fault. */
+static uint64_t layers_refusal(const struct net *net)
+{
+    struct place places[MOST_PLACES];
+    if (net->len < 3)
+        return 1;
+    size_t len = field_len(net->bytes) - 3, width = layer_width(net->bytes[0]);
+    if (width == 0 || len == 0 || len % width != 0 || len > MOST_LAYERS * width)
+        return 2;
+    if (net->len - 3 < len)
+        return 1;
+    for (size_t i = find_places(net, 0, 3 + len, 0, places); i > 0; i--)
+        if (!in_range(net, &places[i - 1]))
+            return 3;
+    return 0;
+}
+
+/* Whether there is a layers field that is whole, whatever its numbers. */
+static int has_layers(const struct net *net)
+{
+    uint64_t refusal = layers_refusal(net);
+    return refusal == 0 || refusal == 3;
+}
+
+/* The edition of the layers field becomes that of the tag; what a layer has no room for is left out, and a via resistance that it did not have is 0. */
+static void write_edition(struct net *net, unsigned tag)
+{
+    size_t layers = layer_count(net), from = layer_width(net->bytes[0]), to = layer_width(tag);
+    uint8_t field[3 + 6 * MOST_LAYERS] = {(uint8_t)tag, 0, (uint8_t)(to * layers)};
+    for (size_t layer = 0; layer < layers; layer++)
+        memcpy(field + 3 + to * layer, net->bytes + 3 + from * layer, from < to ? from : to);
+    replace(net, 0, 3 + from * layers, field, 3 + to * layers);
+}
+
+static unsigned other_tag(const struct net *net)
+{
+    return net->bytes[0] == FIRST_EDITION ? SECOND_EDITION : FIRST_EDITION;
+}
+
+/* The other edition; coming to the second, some layers get a via resistance. */
+static void change_edition(struct net *net)
+{
+    struct place places[MOST_PLACES];
+    if (!has_layers(net))
+        return;
+    write_edition(net, other_tag(net));
+    for (size_t i = find_places(net, 0, field_len(net->bytes), 0, places); i > 0; i--)
+        if (places[i - 1].what == 'v' && one_in(2))
+            write_number(net, &places[i - 1], good_value(&places[i - 1]));
 }
 
 /* Bytes changed, cut off, put in or put behind, without regard to fields. */
@@ -757,7 +829,7 @@ static void add_field(struct growing *g, unsigned tag, size_t parent)
 {
     static const uint8_t zeros[128];
     struct place places[MOST_PLACES];
-    const size_t lengths[] = {0, 4 * g->layers, 16, 4 + 4 * g->layers, 16 + 4 * g->layers, 16 + 4 * g->layers};
+    const size_t lengths[] = {0, 4 * g->layers, 16, 4 + 4 * g->layers, 16 + 4 * g->layers, 16 + 4 * g->layers, 0, 6 * g->layers};
     size_t start = g->net->len;
     const uint8_t head[] = {(uint8_t)tag, 0, (uint8_t)lengths[tag]};
     replace(g->net, start, 0, head, sizeof head);
@@ -784,7 +856,7 @@ static void grow_net(struct net *net)
     size_t wanted = 1 + below(one_in(40) ? 250 : 14);
     g.timely = one_in(3);
     net->len = 0;
-    add_field(&g, 1, 0);
+    add_field(&g, one_in(2) ? FIRST_EDITION : SECOND_EDITION, 0);
     add_field(&g, 2, 0);
     for (size_t tries = 0; g.nodes < wanted && tries < 4 * wanted; tries++) {
         size_t parent = one_in(3) ? g.nodes : below(g.nodes + 1);
@@ -809,6 +881,8 @@ static void make_net(struct net *net)
     } else {
         copy_net(net, some_net());
     }
+    if (one_in(8))
+        change_edition(net);
     for (size_t times = below(4); times > 0; times--)
         change_number(net, 0);
     if (one_in(5))
@@ -823,13 +897,10 @@ static void make_net(struct net *net)
 
 /* ---- One net: all calls, and what they say of each other ---- */
 
-static uint64_t nets, readable, planned, planned_long;
+static uint64_t nets, readable, planned, planned_long, planned_vias, twins, raised;
 
-static int in_range(const struct net *net, const struct place *place)
-{
-    int64_t value = (int64_t)read_number(net, place);
-    return value >= place->low && value <= place->high;
-}
+/* How often a layers field of the second edition had no fault (0), or was refused with 1, 2 or 3. */
+static uint64_t second_edition[4];
 
 /* Whether no number is outside its range, as far as fields are there; parents aside, which have a refusal of their own. */
 static int all_in_range(const struct net *net)
@@ -844,26 +915,83 @@ static int all_in_range(const struct net *net)
     return 1;
 }
 
-/* Checks a net, and sees that no number outside its range was read, and that 3 is given for one only. */
+/* Checks a net, and sees that its layers are read rightly, that no number outside its range was read, and that 3 is given for one only. */
 static struct answer check_rightly(const struct net *net)
 {
     struct answer counts = check(net);
+    uint64_t of_layers = layers_refusal(net);
+    must(of_layers == 0 || counts.refusal == of_layers, "not the refusal that is due for the layers field");
+    must(counts.refusal != 0 || counts.results[LAYERS] == layer_count(net), "not the number of layers that the layers field has");
+    if (net->len > 0 && net->bytes[0] == SECOND_EDITION)
+        second_edition[of_layers]++;
     must(counts.refusal != 0 || all_in_range(net), "a net was read that has a number outside its range");
     must(counts.refusal != 3 || !all_in_range(net), "refusal 3, but every number is in its range");
     return counts;
 }
 
-/* Whether a net that can be read has an edge longer than the scope document's first limit, 1,000. */
-static int has_long_edge(const struct net *net)
+/* A layers field by itself, of any length up to beyond the limits, its numbers mostly in range: the refusal is known, 1 if it has no fault, for the driver is
+ * due behind it. */
+static void try_layers(void)
+{
+    static struct net net;
+    size_t len = below(6 * MOST_LAYERS + 12);
+    const uint8_t head[] = {(uint8_t)(one_in(8) ? below(9) : one_in(2) ? FIRST_EDITION : SECOND_EDITION), one_in(20), (uint8_t)len};
+    memcpy(net.bytes, head, sizeof head);
+    net.len = sizeof head + len;
+    struct place unit = place_for('u', 0); /* such a number is in range for a via too */
+    for (unit.at = sizeof head; unit.at < net.len; unit.at += unit.width)
+        write_number(&net, &unit, good_value(&unit));
+    if (one_in(3))
+        change_number(&net, 1);
+    if (one_in(8))
+        net.len = below(net.len + 1);
+    struct answer counts = check_rightly(&net);
+    must(counts.refusal == 1 || layers_refusal(&net) != 0, "layers alone, without fault: not 1 for the driver that is due");
+}
+
+/* An edge: its stage and length, and the input capacitance at its lower end if a terminal is there. */
+struct edge {
+    size_t stage;
+    uint64_t length, capacitance;
+    int to_terminal;
+};
+
+/* The edges of a net that can be read, and how many. An edge is of the stage below its parent; a buffer begins the next stage. */
+static size_t find_edges(const struct net *net, struct edge *edges)
 {
     struct fields fields;
     struct place places[MOST_PLACES];
+    size_t below_node[MOST_NODES] = {0}, buffers = 0, count = 0;
     find_fields(net, &fields);
-    for (size_t field = 2; field < fields.count; field++) {
-        find_places(net, fields.at[field], fields.at[field + 1], field, places);
-        if (read_number(net, &places[1]) > 1000)
-            return 1;
+    for (size_t node = 1; node + 1 < fields.count; node++) {
+        size_t at = fields.at[node + 1], stage;
+        int to_terminal = net->bytes[at] != 3; /* then its capacitance follows the costs */
+        find_places(net, at, fields.at[node + 2], node + 1, places);
+        stage = below_node[read_number(net, &places[0])];
+        below_node[node] = net->bytes[at] == 4 ? ++buffers : stage;
+        uint64_t capacitance = to_terminal ? read_number(net, &places[2 + layer_count(net)]) : 0;
+        edges[count++] = (struct edge){stage, read_number(net, &places[1]), capacitance, to_terminal};
     }
+    return count;
+}
+
+/* Whether a net that can be read has an edge longer than the scope document's first limit, 1,000. */
+static int has_long_edge(const struct net *net)
+{
+    struct edge edges[MOST_NODES];
+    for (size_t i = find_edges(net, edges); i > 0; i--)
+        if (edges[i - 1].length > 1000)
+            return 1;
+    return 0;
+}
+
+/* Whether a layer of a whole layers field has a via resistance above 0. */
+static int has_vias(const struct net *net)
+{
+    struct place places[MOST_PLACES];
+    for (size_t i = find_places(net, 0, field_len(net->bytes), 0, places); i > 0; i--)
+        if (places[i - 1].what == 'v' && read_number(net, &places[i - 1]) > 0)
+            return 1;
     return 0;
 }
 
@@ -902,6 +1030,13 @@ static struct answer judge_rightly(const struct net *net, const struct answer *c
     return judged;
 }
 
+/* A plan of a net that can be read. */
+static void make_whole_plan(const struct answer *counts, uint8_t *plan)
+{
+    for (size_t i = 0; i < counts->results[STAGES]; i++)
+        plan[i] = (uint8_t)below(counts->results[LAYERS]);
+}
+
 /* Moves the arrival time so that a plan of the net is just in time, or a tick late or early: what decides is close then. A later arrival takes as much off the
  * slack, which judging must confirm. */
 static void tighten(struct net *net, const struct answer *counts)
@@ -909,8 +1044,7 @@ static void tighten(struct net *net, const struct answer *counts)
     uint8_t plan[MOST_STAGES];
     struct fields fields;
     struct place places[MOST_PLACES];
-    for (size_t i = 0; i < counts->results[STAGES]; i++)
-        plan[i] = (uint8_t)below(counts->results[LAYERS]);
+    make_whole_plan(counts, plan);
     struct answer judged = judge_rightly(net, counts, plan, counts->results[STAGES]);
     find_fields(net, &fields);
     find_places(net, fields.at[1], fields.at[2], 1, places);
@@ -1062,6 +1196,91 @@ static void other_table(const struct net *net, size_t s, struct asked asked, con
     must(memcmp(again, plan, s) == 0, "another plan with a table of as many columns or more");
 }
 
+/* What every call says of a net. */
+struct answers {
+    struct answer checked, judged, found;
+    uint8_t plan[MOST_STAGES];
+};
+
+static struct answers ask_all(const struct net *net, const uint8_t *plan, size_t len, struct asked asked)
+{
+    struct answers all = {0};
+    all.checked = check(net);
+    all.judged = judge(net, plan, len);
+    all.found = plan_net(net, all.checked.results[STAGES], asked, all.plan);
+    return all;
+}
+
+/* A net without vias is answered alike in both editions, whatever follows its layers field. */
+static void try_other_edition(const struct net *net, const uint8_t *plan, size_t len, struct asked asked)
+{
+    static struct net twin;
+    if (!has_layers(net) || has_vias(net))
+        return;
+    copy_net(&twin, net);
+    write_edition(&twin, other_tag(net));
+    struct answers one = ask_all(net, plan, len, asked), other = ask_all(&twin, plan, len, asked);
+    must(memcmp(&one, &other, sizeof one) == 0, "another answer than for the same net in the other edition, without vias");
+    twins++;
+}
+
+/* What a plan pays for vias on a layer whose via resistance is 1: on every way at least, on any way at most. Every way begins in stage 0, pays at its root and
+ * at one of its terminals; no way pays more than that in every stage. */
+static void via_bounds(const struct net *net, const uint8_t *plan, size_t layer, int64_t *least, int64_t *most)
+{
+    struct edge edges[MOST_NODES];
+    struct place places[MOST_PLACES];
+    int64_t load[MOST_STAGES] = {0}, low[MOST_STAGES], high[MOST_STAGES] = {0};
+    for (size_t i = 0; i < MOST_STAGES; i++)
+        low[i] = INT64_MAX;
+    find_places(net, 0, field_len(net->bytes), 0, places);
+    int64_t unit = (int64_t)read_number(net, &places[3 * layer + 1]);
+    for (size_t i = find_edges(net, edges); i > 0; i--) {
+        size_t stage = edges[i - 1].stage;
+        int64_t capacitance = (int64_t)edges[i - 1].capacitance;
+        load[stage] += (int64_t)edges[i - 1].length * unit + capacitance;
+        if (edges[i - 1].to_terminal && capacitance < low[stage])
+            low[stage] = capacitance;
+        if (capacitance > high[stage])
+            high[stage] = capacitance;
+    }
+    *least = plan[0] == layer ? 2 * (load[0] + low[0]) : 0;
+    *most = 0;
+    for (size_t i = 0; i < MOST_STAGES; i++)
+        if (low[i] != INT64_MAX && plan[i] == layer)
+            *most += 2 * (load[i] + high[i]);
+}
+
+/* Raises the via resistance of a layer twice by the same. The cost stays. The slack falls each time, the second time by no less, for it is the least over ways
+ * that each fall evenly; and by no less and no more than a via can cost. */
+static void raise_via(const struct net *net, const struct answer *counts)
+{
+    static struct net other;
+    uint8_t plan[MOST_STAGES];
+    struct place places[MOST_PLACES];
+    int64_t slack[3], least, most;
+    uint64_t cost[3];
+    make_whole_plan(counts, plan);
+    copy_net(&other, net);
+    write_edition(&other, SECOND_EDITION);
+    find_places(&other, 0, field_len(other.bytes), 0, places);
+    size_t layer = one_in(4) ? below(counts->results[LAYERS]) : plan[0];
+    const struct place *via = &places[3 * layer + 2];
+    int64_t old = (int64_t)read_number(&other, via), step = between(0, (via->high - old) / 2);
+    for (int times = 0; times < 3; times++) {
+        write_number(&other, via, (uint64_t)(old + times * step));
+        struct answer judged = judge_rightly(&other, counts, plan, counts->results[STAGES]);
+        slack[times] = (int64_t)judged.results[SLACK];
+        cost[times] = judged.results[COST];
+    }
+    via_bounds(&other, plan, layer, &least, &most);
+    must(cost[0] == cost[1] && cost[1] == cost[2], "a via resistance moves the cost");
+    must(slack[0] - slack[1] <= slack[1] - slack[2], "the slack does not fall evenly, or faster, as a via resistance rises");
+    must(slack[0] - slack[1] >= step * least, "the slack falls by less than what stage 0 pays for a higher via resistance");
+    must(slack[1] - slack[2] <= step * most, "the slack falls by more than what all stages pay for a higher via resistance");
+    raised++;
+}
+
 /* Nets of which some plan meets timing are kept in the pool, those of one stage seldom. */
 static void keep_net(const struct net *net, size_t s)
 {
@@ -1097,12 +1316,19 @@ static void try_net(void)
     if (found.refusal == 0) {
         planned++;
         planned_long += (uint64_t)has_long_edge(&net);
+        planned_vias += (uint64_t)has_vias(&net);
         plan_keeps_promises(&net, &counts, asked, &found, found_plan);
     }
     if (found.refusal == 0 || found.refusal == 12) {
         other_table(&net, s, asked, &found, found_plan);
         keep_net(&net, s);
     }
+    if (one_in(4))
+        try_layers();
+    if (one_in(4))
+        try_other_edition(&net, plan, len, asked);
+    if (counts.refusal == 0 && one_in(4))
+        raise_via(&net, &counts);
 }
 
 /* ---- One block: the report over it, and its nets planned one by one ---- */
@@ -1206,23 +1432,14 @@ static int is_block(const struct block *block)
     return 1;
 }
 
-/* Adds each edge's length to that of the layer on which the plan has it, and gives their sum. The edge is of the stage below its parent; a buffer begins the
- * next stage. */
+/* Adds each edge's length to that of the layer on which the plan has it, and gives their sum. */
 static uint64_t add_lengths(const struct net *net, const uint8_t *plan, uint64_t *lengths)
 {
-    struct fields fields;
-    struct place places[MOST_PLACES];
-    size_t below_node[MOST_NODES] = {0}, buffers = 0;
+    struct edge edges[MOST_NODES];
     uint64_t wire = 0;
-    find_fields(net, &fields);
-    for (size_t node = 1; node + 1 < fields.count; node++) {
-        size_t at = fields.at[node + 1];
-        find_places(net, at, fields.at[node + 2], node + 1, places);
-        size_t stage = below_node[read_number(net, &places[0])];
-        uint64_t length = read_number(net, &places[1]);
-        below_node[node] = net->bytes[at] == 4 ? ++buffers : stage;
-        lengths[plan[stage]] += length;
-        wire += length;
+    for (size_t i = find_edges(net, edges); i > 0; i--) {
+        lengths[plan[edges[i - 1].stage]] += edges[i - 1].length;
+        wire += edges[i - 1].length;
     }
     return wire;
 }
@@ -1349,14 +1566,30 @@ static int print_told(void)
     return missing;
 }
 
+/* One line for the layers fields of the second edition; how many of their numbers were never given. */
+static int print_second_edition(void)
+{
+    int missing = 0;
+    printf("layers of tag %d without fault %" PRIu64 "; refused", SECOND_EDITION, second_edition[0]);
+    for (unsigned number = 0; number <= 3; number++) {
+        missing += second_edition[number] == 0;
+        if (number > 0)
+            printf("  %u: %" PRIu64, number, second_edition[number]);
+    }
+    printf("\n");
+    return missing;
+}
+
 static void print_summary(void)
 {
     printf("seed %" PRIu64 ": %" PRIu64 " calls on %" PRIu64 " nets; ", now.seed, now.number, nets);
     printf("%.0f%% of these can be read, %.0f%% were planned", 100.0 * (double)readable / (double)nets, 100.0 * (double)planned / (double)nets);
-    printf(", %" PRIu64 " of them with an edge above 1,000\n", planned_long);
+    printf(", %" PRIu64 " of them with an edge above 1,000, %" PRIu64 " with vias\n", planned_long, planned_vias);
+    printf("%" PRIu64 " nets were tried in both editions, of %" PRIu64 " a via resistance was raised\n", twins, raised);
     int missing = 0;
     for (int call = 0; call < CALLS; call++)
         missing += print_met(call);
+    missing += print_second_edition();
     missing += print_told();
     printf("%s on the chart %" PRIu64 "; off it %" PRIu64 "\n", CALL_NAMES[TABLE_ENTRIES], charted, uncharted);
     if (missing == 0)

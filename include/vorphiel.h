@@ -7,7 +7,7 @@
  * docs/CUSTOMERS.md says all this at more length, with worked examples. The numbers are those of the scope document, 13 that of the change requests:
  *   1  fewer than three bytes are left where a field is due, or the payload is not all there
  *   2  a tag that is not allowed there, or a length that its kind does not have
- *   3  a number outside its range (the length of an edge is 0 to 4,000; docs/CUSTOMERS.md has them all)
+ *   3  a number outside its range (the length of an edge is 0 to 4,000, a via resistance 0 to 1,000; docs/CUSTOMERS.md has them all)
  *   4  a 256th node after the driver, or a 64th buffer
  *   5  a bad parent: not a lower number, a sink, or one that has two children already
  *   6  a childless node that is no sink
@@ -29,7 +29,8 @@
 extern "C" {
 #endif
 
-/* Reads a net. Accepted: the counts of its nodes (driver included), stages and layers. Refused with 1 to 6: the first fault met. */
+/* Reads a net, whose layers have tag 1, or tag 7 and a via resistance each. Accepted: the counts of its nodes (driver included), stages and layers. Refused
+ * with 1 to 6: the first fault met. */
 uint8_t vorphiel_check(const uint8_t *net, size_t net_len, uint64_t *nodes, uint64_t *stages, uint64_t *layers);
 
 /* Judges a plan, one layer number a stage. Accepted: the plan's exact cost, and its exact slack in ticks, which may be negative.

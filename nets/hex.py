@@ -15,7 +15,10 @@ Exit status 1: a file cannot be read or is no such text, a net is longer than 65
 import re
 import sys
 
-# The numbers of a payload: (what it is, width, may be negative). A node has its edge, a cost for each layer, and what its kind adds.
+# The numbers of a payload: (what it is, width, may be negative). A layers field has them for each layer, by its edition; a node has its edge, a cost for each
+# layer, and what its kind adds.
+UNITS = [("unit resistance", 2, False), ("unit capacitance", 2, False)]
+LAYERS = {1: UNITS, 7: UNITS + [("via resistance", 2, False)]}
 DRIVER = [("gate resistance", 4, False), ("intrinsic delay", 4, False), ("arrival time", 8, True)]
 EDGE = [("parent", 2, False), ("length", 2, False)]
 NODES = {
@@ -23,6 +26,8 @@ NODES = {
     4: ("buffer", [("input capacitance", 4, False), ("gate resistance", 4, False), ("intrinsic delay", 4, False)]),
     5: ("sink", [("input capacitance", 4, False), ("required time", 8, True)]),
 }
+
+MOST_LAYERS = 16
 
 # A block: the tag of a net's field, the longest payload that a field's two bytes of length can say, and the longest block.
 NET_TAG = 6
@@ -74,12 +79,24 @@ def parts(data, described):
     return "".join(line([piece], f"{what} {number(piece, signed)}") for piece, (what, _, signed) in zip(pieces, described))
 
 
-def layers_text(payload):
+def width_of(described):
+    """The bytes that some numbers take together."""
+    return sum(width for _, width, _ in described)
+
+
+def layer_count(tag, payload):
+    """The layers of a layers field, or 0 if there is none of this tag and length."""
+    count, left = divmod(len(payload), width_of(LAYERS[tag])) if tag in LAYERS else (0, 0)
+    return count if left == 0 and count <= MOST_LAYERS else 0
+
+
+def layers_text(tag, payload):
     """A line for each layer."""
-    pairs = [cut(payload[at:], [2, 2]) for at in range(0, len(payload), 4)]
+    described, count = LAYERS[tag], layer_count(tag, payload)
+    rows = [cut(payload[layer * width_of(described):], [width for _, width, _ in described]) for layer in range(count)]
     return "".join(
-        line(pair, f"layer {layer}: unit resistance {number(pair[0])}, unit capacitance {number(pair[1])}")
-        for layer, pair in enumerate(pairs))
+        line(row, f"layer {layer}: " + ", ".join(f"{what} {number(piece)}" for piece, (what, _, _) in zip(row, described)))
+        for layer, row in enumerate(rows))
 
 
 def costs_text(data, layers):
@@ -93,11 +110,11 @@ def costs_text(data, layers):
 def field_text(tag, payload, place, layers):
     """The text of the field at a place (0 layers, 1 driver, then nodes 1, 2, ...), or None if it is not what is due there."""
     length = len(payload)
-    if place == 0 and tag == 1 and length in range(4, 65, 4):
-        name, body = "layers", layers_text(payload)
+    if place == 0 and layer_count(tag, payload) > 0:
+        name, body = "layers", layers_text(tag, payload)
     elif place == 1 and tag == 2 and length == 16:
         name, body = "driver, node 0", parts(payload, DRIVER)
-    elif place > 1 and tag in NODES and length == 4 + 4 * layers + sum(width for _, width, _ in NODES[tag][1]):
+    elif place > 1 and tag in NODES and length == 4 + 4 * layers + width_of(NODES[tag][1]):
         name = f"node {place - 1}: {NODES[tag][0]}"
         body = parts(payload, EDGE) + costs_text(payload[4:], layers) + parts(payload[4 + 4 * layers:], NODES[tag][1])
     else:
@@ -130,7 +147,7 @@ def net_text(net, first):
         if field is None:
             break
         if place == 0:
-            layers = len(payload) // 4
+            layers = layer_count(tag, payload)
         text, done = text + field, at + 3 + len(payload)
     return text + rest_text(net, done, "net", first)
 

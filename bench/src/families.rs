@@ -32,17 +32,19 @@ pub enum Times {
     Loose,
 }
 
-/// A net's size: nodes after the driver, stages, layers; and the shortest and the longest that an edge may be.
+/// A net's size: nodes after the driver, stages, layers; the shortest and the longest that an edge may be; and whether
+/// the climb to a layer counts.
 #[derive(Clone, Copy)]
 pub struct Size {
     pub nodes: usize,
     pub stages: usize,
     pub layers: usize,
     pub lengths: (i64, i64),
+    pub vias: bool,
 }
 
 /// As many nodes, stages and layers as there may be, and short edges.
-pub const LIMITS: Size = Size { nodes: 255, stages: 64, layers: 16, lengths: (1, 20) };
+pub const LIMITS: Size = Size { nodes: 255, stages: 64, layers: 16, lengths: (1, 20), vias: false };
 
 /// The nets at the limits that the table lists.
 pub fn at_the_limits() -> Vec<Case> {
@@ -62,6 +64,11 @@ pub fn at_the_limits() -> Vec<Case> {
 pub fn long_edges() -> Vec<Case> {
     let lengths = (1_001, peer::MOST_LENGTH as i64);
     family("long edges", Shape::Free, Size { lengths, ..LIMITS })
+}
+
+/// The free trees in the second edition; apart as well.
+pub fn with_vias() -> Vec<Case> {
+    family("vias", Shape::Free, Size { vias: true, ..LIMITS })
 }
 
 /// Nets of one shape and size, one for each choice of times.
@@ -86,6 +93,11 @@ pub fn case(name: &str, shape: Shape, size: Size, times: Times) -> Case {
 fn layer(number: usize, layers: usize) -> (i64, i64) {
     let height = 15.0 * number as f64 / (layers - 1).max(1) as f64;
     ((900.0 * 0.8f64.powf(height)) as i64 + 1, (4.0 * 1.2f64.powf(height)) as i64)
+}
+
+/// The climb to a layer, the longer the higher it is: from 10 up to 160 units, beside gate resistances of 20 to 400.
+fn via(number: usize) -> i64 {
+    10 * (number as i64 + 1)
 }
 
 struct Growing<'a> {
@@ -162,7 +174,8 @@ fn grown(shape: Shape, size: Size, random: &mut Random) -> Draft {
     }
     let mut nodes = tree.nodes;
     lengthen(&mut nodes, size.nodes, tree.random);
-    Draft { layers, resistance: 100, intrinsic: 10_000, arrival: 0, nodes }
+    let vias = size.vias.then(|| (0..size.layers).map(via).collect());
+    Draft { layers, vias, resistance: 100, intrinsic: 10_000, arrival: 0, nodes }
 }
 
 /// Puts Steiner points into edges until there are `wanted` nodes.

@@ -85,6 +85,8 @@ fn main() {
 fn measure_calls(asked: &[&str]) {
     let (mut cases, growing, calls) = (families::at_the_limits(), growing(), calls());
     let short = cases.len();
+    cases.extend(families::with_vias());
+    let short_or_vias = cases.len();
     cases.extend(families::long_edges());
     let at_limits = cases.iter().flat_map(|case| calls.iter().map(move |&call| Job::new(case, call)));
     let mut jobs: Vec<Job> = at_limits.collect();
@@ -105,13 +107,14 @@ fn measure_calls(asked: &[&str]) {
     let counted = measure::instructions(&["--once"], jobs.len(), &profiled(&cases, &calls));
     let measured = beside_times(counted.as_ref(), &mut jobs);
     let (limits, grown) = measured.split_at(cases.len() * calls.len());
-    let (of_short, of_long) = limits.split_at(short * calls.len());
-    report::ratios(&cases[..short], &calls, of_short);
-    report::ratios(&cases[short..], &calls, of_long);
+    for nets in [0..short, short..short_or_vias, short_or_vias..cases.len()] {
+        let rows = nets.start * calls.len()..nets.end * calls.len();
+        report::ratios(&cases[nets], &calls, &limits[rows]);
+    }
     report::stacks(&calls, &stacks);
     report::profiles(counted.map_or(vec![], |counted| counted.1));
     report::growth(&growing, grown);
     // Not with long edges: share 0 would take a table of gigabytes, as they cost millions.
-    report::excess(&cases[..short], &SHARES);
+    report::excess(&cases[..short_or_vias], &SHARES);
     measure_blocks();
 }

@@ -42,9 +42,17 @@ struct Node {
     costs: usize,
 }
 
+/// The units of a layer, and the resistance of the climb to it.
+#[derive(Clone, Copy)]
+struct Layer {
+    resistance: u64,
+    capacitance: u64,
+    via: u64,
+}
+
 struct Net<'a> {
     bytes: &'a [u8],
-    layers: Vec<(u64, u64)>,
+    layers: Vec<Layer>,
     nodes: Vec<Node>,
     stages: usize,
 }
@@ -84,13 +92,19 @@ fn field(bytes: &[u8], at: usize, allowed: impl Fn(u8, usize) -> bool) -> Result
     Ok((tag, at + 3, size))
 }
 
-fn read_layers(bytes: &[u8]) -> Result<(Vec<(u64, u64)>, usize), Refusal> {
-    let (_, start, size) = field(bytes, 0, |tag, size| tag == 1 && (4..=64).contains(&size) && size % 4 == 0)?;
+/// A layer of the first edition (tag 1) has its units only, one of the second (tag 7) its via resistance too.
+fn read_layers(bytes: &[u8]) -> Result<(Vec<Layer>, usize), Refusal> {
+    let width = |tag| if tag == 7 { 6 } else { 4 };
+    let (tag, start, size) = field(bytes, 0, |tag, size| {
+        let width = width(tag);
+        (tag == 1 || tag == 7) && (width..=MOST_LAYERS * width).contains(&size) && size % width == 0
+    })?;
     let mut layers = Vec::with_capacity(MOST_LAYERS);
-    for at in (start..start + size).step_by(4) {
+    for at in (start..start + size).step_by(width(tag)) {
         let (resistance, capacitance) = (u16_at(bytes, at), u16_at(bytes, at + 2));
-        ranged((1..=1_000).contains(&resistance) && (1..=1_000).contains(&capacitance))?;
-        layers.push((resistance, capacitance));
+        let via = if tag == 7 { u16_at(bytes, at + 4) } else { 0 };
+        ranged((1..=1_000).contains(&resistance) && (1..=1_000).contains(&capacitance) && via <= 1_000)?;
+        layers.push(Layer { resistance, capacitance, via });
     }
     Ok((layers, start + size))
 }
@@ -190,13 +204,23 @@ fn lower(node: &Node, below: u64) -> u64 {
     }
 }
 
-/// The delay of the gate at a root with this load; none for the wire below a Steiner point.
-fn gate(node: &Node, load: u64) -> Option<u64> {
+/// The delay of the gate at a root with this load, and of the climb to the layer; none for the wire below a Steiner point.
+fn gate(node: &Node, load: u64, layer: &Layer) -> Option<u64> {
     match node.kind {
         Kind::Driver { resistance, intrinsic, .. } | Kind::Buffer { resistance, intrinsic, .. } => {
-            Some(2 * resistance * load + intrinsic)
+            Some(2 * (resistance + layer.via) * load + intrinsic)
         }
         _ => None,
+    }
+}
+
+/// The delay of the edge above a node with this load at its lower end, and at a terminal that of the climb down to its
+/// pin.
+fn edge(node: &Node, load: u64, layer: &Layer) -> u64 {
+    let wire = node.length * layer.resistance * (node.length * layer.capacitance + 2 * load);
+    match node.kind {
+        Kind::Steiner => wire,
+        _ => wire + 2 * layer.via * load,
     }
 }
 
@@ -227,15 +251,14 @@ fn judged(net: &Net, (above, driven): &(Vec<usize>, Vec<usize>), plan: &[u8]) ->
     for number in (1..count).rev() {
         let node = &net.nodes[number];
         let layer = plan[above[number]] as usize;
-        load[node.parent] += node.length * net.layers[layer].1 + lower(node, load[number]);
+        load[node.parent] += node.length * net.layers[layer].capacitance + lower(node, load[number]);
         cost += u32_at(net.bytes, node.costs + 4 * layer);
     }
     for number in 1..count {
         let node = &net.nodes[number];
-        let (resistance, capacitance) = net.layers[plan[above[number]] as usize];
-        let start = gate(&net.nodes[node.parent], load[node.parent]).unwrap_or(delay[node.parent]);
-        let wire = node.length * capacitance + 2 * lower(node, load[number]);
-        delay[number] = start + node.length * resistance * wire;
+        let layer = &net.layers[plan[above[number]] as usize];
+        let start = gate(&net.nodes[node.parent], load[node.parent], layer).unwrap_or(delay[node.parent]);
+        delay[number] = start + edge(node, lower(node, load[number]), layer);
     }
     let mut required = [NO_LIMIT; MOST_STAGES];
     for number in (1..count).rev() {
@@ -268,8 +291,8 @@ fn loads(net: &Net) -> Vec<OnLayers<u64>> {
     let mut load = vec![[0; MOST_LAYERS]; net.nodes.len()];
     for number in (1..net.nodes.len()).rev() {
         let node = &net.nodes[number];
-        for (layer, unit) in net.layers.iter().enumerate() {
-            load[node.parent][layer] += node.length * unit.1 + lower(node, load[number][layer]);
+        for (column, layer) in net.layers.iter().enumerate() {
+            load[node.parent][column] += node.length * layer.capacitance + lower(node, load[number][column]);
         }
     }
     load
@@ -281,10 +304,9 @@ fn delays(net: &Net) -> Vec<OnLayers<u64>> {
     for number in 1..net.nodes.len() {
         let node = &net.nodes[number];
         let parent = &net.nodes[node.parent];
-        for (layer, &(resistance, capacitance)) in net.layers.iter().enumerate() {
-            let start = gate(parent, load[node.parent][layer]).unwrap_or(delay[node.parent][layer]);
-            let wire = node.length * capacitance + 2 * lower(node, load[number][layer]);
-            delay[number][layer] = start + node.length * resistance * wire;
+        for (column, layer) in net.layers.iter().enumerate() {
+            let start = gate(parent, load[node.parent][column], layer).unwrap_or(delay[node.parent][column]);
+            delay[number][column] = start + edge(node, lower(node, load[number][column]), layer);
         }
     }
     delay

@@ -3,26 +3,30 @@
 use crate::c_calls::Totals;
 use crate::compare::{Asked, Case};
 use crate::plain::{self, PlannedNet};
+use std::collections::BTreeSet;
 
 /// A block with what the report tells of it.
 pub struct Block {
     pub name: String,
     pub bytes: Vec<u8>,
     pub totals: Totals,
+    /// The tags that the planned nets begin with: 1, or 7 where there are vias.
+    pub editions: BTreeSet<u8>,
     /// The wire of its planned nets; 0 for bytes that are no block.
     wire: i128,
 }
 
 impl Block {
     pub fn new(name: &str, bytes: &[u8]) -> Block {
-        let (totals, wire) = match plain::read_block(bytes) {
-            Err(refusal) => (Totals { refusal, ..Default::default() }, 0),
+        let (totals, editions, wire) = match plain::read_block(bytes) {
+            Err(refusal) => (Totals { refusal, ..Default::default() }, BTreeSet::new(), 0),
             Ok(nets) => {
-                let planned: Vec<PlannedNet> = nets.into_iter().map(planned_by_program).collect();
-                (plain::totals(&planned), plain::planned_wire(&planned))
+                let planned: Vec<PlannedNet> = nets.iter().map(|net| planned_by_program(net)).collect();
+                let editions = nets.iter().zip(&planned).filter(|(_, planned)| planned.is_ok()).map(|(net, _)| net[0]);
+                (plain::totals(&planned), editions.collect(), plain::planned_wire(&planned))
             }
         };
-        Block { name: String::from(name), bytes: bytes.to_vec(), totals, wire }
+        Block { name: String::from(name), bytes: bytes.to_vec(), totals, editions, wire }
     }
 
     /// What the report prints.

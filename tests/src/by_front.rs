@@ -24,7 +24,7 @@ enum End {
 struct Stage {
     /// For each layer: the cost of the stage.
     cost: Vec<i64>,
-    /// The terminals, each with gate delay plus wire delay for each layer.
+    /// The terminals, each with the delay from the stage's input for each layer.
     ends: Vec<(End, Vec<i64>)>,
 }
 
@@ -160,12 +160,12 @@ impl Stage {
         let cost = layers.clone().map(|layer| plain::stage_cost(net, number, layer) as i64).collect();
         let mut ends: Vec<(End, Vec<i64>)> = vec![];
         for layer in layers {
-            let gate = plain::gate_delay(net, root, layer);
-            for (place, (terminal, wire)) in plain::terminals_below(net, root, layer).into_iter().enumerate() {
+            let gate = plain::root_delay(net, root, layer);
+            for (place, (terminal, way)) in plain::terminals_below(net, root, layer).into_iter().enumerate() {
                 if layer == 0 {
                     ends.push((End::new(net, terminal), vec![]));
                 }
-                ends[place].1.push((gate + wire) as i64);
+                ends[place].1.push((gate + way) as i64);
             }
         }
         Stage { cost, ends }

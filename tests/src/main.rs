@@ -21,6 +21,7 @@ use std::{fs, io};
 use vorphiel_tests::compare::{hex, Comparison, Failure, Outcome};
 use vorphiel_tests::host::{linked, Host, Interface};
 use vorphiel_tests::plain::{self, Search};
+use vorphiel_tests::runs::stored::{Stored, LENGTHS_TO_1000, WITHOUT_VIAS};
 use vorphiel_tests::wrong::{self, Mistake, Walk};
 use vorphiel_tests::{by_front, nets, runs, stored};
 
@@ -116,15 +117,18 @@ fn write_input(folder: &str, name: &str, number: usize, (bytes, text): (&[u8], &
     fs::write(format!("{folder}/{name}-{number}.text"), text)
 }
 
-/// Writes blocks, and sees which kinds of line their texts have, each by its words and number, without what was counted.
+/// Writes blocks, and sees which kinds of line their texts have, each by its words and number, without what was counted;
+/// and how many blocks have planned nets of both editions.
 fn write_blocks(folder: &str, count: usize) -> io::Result<bool> {
-    let mut met = BTreeSet::new();
+    let (mut met, mut both) = (BTreeSet::new(), 0);
     for (number, block) in runs::blocks::for_program(SEED, count).iter().enumerate() {
         let text = block.text();
         write_input(folder, "block", number, (&block.bytes, &text))?;
         met.extend(text.lines().map(|line| if line == "refused 13" { line } else { counted(line) }).map(String::from));
+        both += (block.editions == BTreeSet::from([1, 7])) as usize;
     }
-    Ok(every_line_met(&met))
+    println!("{both} blocks of {count} with planned nets of both editions");
+    Ok(every_line_met(&met) && 10 * both >= count)
 }
 
 /// A line without its last number.
@@ -178,7 +182,14 @@ fn print_answers(file: &str) -> bool {
 type Set = fn(&mut Comparison, &Options) -> Outcome;
 
 const ALL: Set = |comparison, options| runs::all(comparison, options.seed, options.count);
-const STORED: Set = |comparison, _| runs::stored::run(comparison);
+
+/// A file of stored answers, its calls, and the mistakes that they must expose alone.
+type StoredSet = (Stored, Set, fn() -> Vec<Mistake>);
+
+const STORED: [StoredSet; 2] = [
+    (LENGTHS_TO_1000, |comparison, _| LENGTHS_TO_1000.run(comparison), Mistake::on_lengths_to_1000),
+    (WITHOUT_VIAS, |comparison, _| WITHOUT_VIAS.run(comparison), Mistake::on_without_vias),
+];
 
 /// One run over an implementation: how many calls passed, and the first that did not.
 fn run(interface: Interface, set: Set, options: &Options) -> (u64, Option<Failure>) {
@@ -212,12 +223,16 @@ fn compare_ourselves(options: &Options) -> bool {
     print!("fronts against the plain search: ");
     let Some(met) = fronts_agree(options) else { return false };
     println!("{} nets agree, {met} of them have a plan that meets timing", options.count);
-    let stored = runs::stored::agreement();
-    println!("stored answers against both: {}", stored.as_ref().unwrap_or_else(|fault| fault));
+    let mut stored = true;
+    for (file, ..) in &STORED {
+        let agreement = file.agreement();
+        println!("stored answers, {}, against both: {}", file.name, agreement.as_ref().unwrap_or_else(|fault| fault));
+        stored &= agreement.is_ok();
+    }
     let loads = runs::loads::agreement(&runs::loads::for_program(options.seed, options.count));
     println!("loads and edges from above, from below, in one pass: {}", loads.as_ref().unwrap_or_else(|fault| fault));
     print!("a table of budgets against all: ");
-    told(run(wrong::interface(Mistake::None), ALL, options), options) && stored.is_ok() && loads.is_ok()
+    told(run(wrong::interface(Mistake::None), ALL, options), options) && stored && loads.is_ok()
 }
 
 /// V(k) and the first plan for every k, by both searches, whole and stopped early. How many nets can be met.
@@ -271,7 +286,11 @@ fn all_exposed(options: &Options) -> bool {
     let planners =
         |mistakes: Vec<Mistake>, set: Set| mistakes.into_iter().map(move |mistake| planner(mistake, set, options));
     let whole = exposed("", "planners", planners(Mistake::all(), ALL));
-    let stored = exposed("by stored answers alone, ", "planners", planners(Mistake::on_stored(), STORED));
+    let mut stored = true;
+    for (file, set, mistakes) in STORED {
+        let by = format!("by stored answers alone ({}), ", file.name);
+        stored &= exposed(&by, "planners", planners(mistakes(), set));
+    }
     print!("no mistake: ");
     let right = told(run(wrong::interface(Mistake::None), ALL, options), options);
     let nets = runs::loads::for_program(options.seed, options.count);

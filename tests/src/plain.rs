@@ -10,11 +10,12 @@ use std::array;
 // 01, The tree and what is left to decide
 // ------------------------------------------------------------------------------------------------
 
-/// A layer's "unit resistance, unit capacitance".
+/// A layer's "unit resistance, unit capacitance"; and (02, wish 5) its "via resistance".
 #[derive(Clone, Debug)]
 pub struct Layer {
     pub resistance: i128,
     pub capacitance: i128,
+    pub via: i128,
 }
 
 /// "Each node record carries its kind, and each kind has numbers of its own."
@@ -103,9 +104,10 @@ pub fn all_plans(net: &Net) -> Vec<Vec<u8>> {
 
 /// "Unit values are 1 to 1,000; layers 1 to 16; lengths 0 to 1,000; costs 1 to 1,000,000; gate resistance
 /// and input capacitance 0 to 100,000; intrinsic delay 0 to 1,000,000,000; times from minus 10^15 to 10^15." But (02,
-/// wish 3) "Lengths may now be 0 to 4,000."
+/// wish 3) "Lengths may now be 0 to 4,000"; and (wish 5) "via resistance from 0 to 1,000".
 type Range = (i128, i128);
 const UNIT: Range = (1, 1_000);
+const VIA: Range = (0, 1_000);
 const LENGTH: Range = (0, 4_000);
 const COST: Range = (1, 1_000_000);
 const RESISTANCE: Range = (0, 100_000);
@@ -120,6 +122,8 @@ const MOST_STAGES: usize = 64;
 const MOST_CHILDREN: usize = 2;
 
 const TAG_LAYERS: u8 = 1;
+/// 02, wish 5: "A layers field of the second edition has tag 7".
+const TAG_LAYERS_VIAS: u8 = 7;
 const TAG_DRIVER: u8 = 2;
 const TAG_STEINER: u8 = 3;
 const TAG_BUFFER: u8 = 4;
@@ -189,9 +193,15 @@ fn in_range(number: i128, range: Range) -> Result<i128, u8> {
     }
 }
 
-/// "A layers payload has 4 to 64 bytes, a multiple of 4; any other length is refusal 2."
+/// "A layers payload has 4 to 64 bytes, a multiple of 4; any other length is refusal 2." But (02, wish 5) tag 7 "takes
+/// tag 1's place", and "tag 7's length is a multiple of 6 from 6 to 96".
 fn is_layers_head(tag: u8, length: usize) -> bool {
-    tag == TAG_LAYERS && (4..=4 * MOST_LAYERS).contains(&length) && length % 4 == 0
+    let is_layers = |width: usize| length % width == 0 && (1..=MOST_LAYERS).contains(&(length / width));
+    match tag {
+        TAG_LAYERS => is_layers(4),
+        TAG_LAYERS_VIAS => is_layers(6),
+        _ => false,
+    }
 }
 
 /// The driver's payload: "gate resistance, intrinsic delay, arrival time", widths 4, 4, 8.
@@ -210,13 +220,16 @@ fn is_node_head(tag: u8, length: usize, layer_count: usize) -> bool {
     }
 }
 
-/// "for each layer: unit resistance, unit capacitance".
-fn read_layers(mut payload: &[u8]) -> Result<Vec<Layer>, u8> {
+/// "for each layer: unit resistance, unit capacitance"; and (02, wish 5) "six bytes for each layer: the two units, then
+/// via resistance from 0 to 1,000, two bytes"; "a tag 1 file has via resistance 0".
+fn read_layers(field: &Field) -> Result<Vec<Layer>, u8> {
+    let mut payload = field.payload;
     let mut layers = vec![];
     while !payload.is_empty() {
         let resistance = in_range(unsigned(&mut payload, 2), UNIT)?;
         let capacitance = in_range(unsigned(&mut payload, 2), UNIT)?;
-        layers.push(Layer { resistance, capacitance });
+        let via = if field.tag == TAG_LAYERS_VIAS { in_range(unsigned(&mut payload, 2), VIA)? } else { 0 };
+        layers.push(Layer { resistance, capacitance, via });
     }
     Ok(layers)
 }
@@ -295,7 +308,7 @@ fn no_childless(net: &Net) -> Result<(), u8> {
 /// long as a byte is left." In a node's field: "then 4, 3, 5".
 pub fn read(bytes: &[u8]) -> Result<Net, u8> {
     let mut at = 0;
-    let layers = read_layers(take_field(bytes, &mut at, is_layers_head)?.payload)?;
+    let layers = read_layers(&take_field(bytes, &mut at, is_layers_head)?)?;
     let driver = read_driver(take_field(bytes, &mut at, is_driver_head)?.payload)?;
     let layer_count = layers.len();
     let mut net = Net { layers, nodes: vec![driver] };
@@ -341,12 +354,12 @@ fn load(net: &Net, node: usize, layer: usize) -> i128 {
 }
 
 /// "Edge delay: R × (C + 2 × load at the lower end)."
-pub fn edge_delay(net: &Net, node: usize, layer: usize) -> i128 {
+fn edge_delay(net: &Net, node: usize, layer: usize) -> i128 {
     edge_resistance(net, node, layer) * (edge_capacitance(net, node, layer) + 2 * load(net, node, layer))
 }
 
 /// "Gate delay: 2 × gate resistance × load at the root, plus intrinsic delay."
-pub fn gate_delay(net: &Net, root: usize, layer: usize) -> i128 {
+fn gate_delay(net: &Net, root: usize, layer: usize) -> i128 {
     match net.nodes[root].kind {
         Kind::Driver { resistance, intrinsic, .. } | Kind::Buffer { resistance, intrinsic, .. } => {
             2 * resistance * load_over_children(net, root, layer) + intrinsic
@@ -355,11 +368,27 @@ pub fn gate_delay(net: &Net, root: usize, layer: usize) -> i128 {
     }
 }
 
-/// The terminals below a node of a stage, each with the sum of "the edge delays between".
+/// 02, wish 5: "A stage now also pays 2 × via resistance × root load at its root". With it, what every way through a
+/// stage takes at the root.
+pub fn root_delay(net: &Net, root: usize, layer: usize) -> i128 {
+    gate_delay(net, root, layer) + 2 * net.layers[layer].via * load_over_children(net, root, layer)
+}
+
+/// "and 2 × via resistance × input capacitance at each terminal, on the way to that terminal": with it, what the edge
+/// above a node and the node itself take. The stage that pays is the one that has the edge.
+pub fn way_delay(net: &Net, node: usize, layer: usize) -> i128 {
+    let climb = match net.nodes[node].kind {
+        Kind::Buffer { capacitance, .. } | Kind::Sink { capacitance, .. } => 2 * net.layers[layer].via * capacitance,
+        Kind::Driver { .. } | Kind::Steiner => 0,
+    };
+    edge_delay(net, node, layer) + climb
+}
+
+/// The terminals below a node of a stage, each with the sum of "the edge delays between" and its own via.
 pub fn terminals_below(net: &Net, node: usize, layer: usize) -> Vec<(usize, i128)> {
     let mut found = vec![];
     for &child in &net.nodes[node].children {
-        let delay = edge_delay(net, child, layer);
+        let delay = way_delay(net, child, layer);
         if is_terminal(net, child) {
             found.push((child, delay));
         } else {
@@ -372,12 +401,12 @@ pub fn terminals_below(net: &Net, node: usize, layer: usize) -> Vec<(usize, i128
 }
 
 /// "at the root it is the least, over terminals, of the terminal's required time minus gate delay minus the
-/// edge delays between".
+/// edge delays between", and the vias.
 fn required_at_root(net: &Net, plan: &[u8], root: usize) -> i128 {
     let layer = plan[stage_driven_by(net, root)] as usize;
-    let gate = gate_delay(net, root, layer);
+    let gate = root_delay(net, root, layer);
     let terminals = terminals_below(net, root, layer);
-    let times = terminals.iter().map(|&(terminal, wire)| required_at_terminal(net, plan, terminal) - gate - wire);
+    let times = terminals.iter().map(|&(terminal, way)| required_at_terminal(net, plan, terminal) - gate - way);
     times.min().expect("every stage has a terminal")
 }
 

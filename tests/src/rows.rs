@@ -4,12 +4,19 @@
 use crate::block::Block;
 use crate::c_calls::Totals;
 use crate::compare::{faults, from_hex, Asked, Case, Comparison, Left, Outcome};
-use crate::nets::{block, line, net_a, net_b};
+use crate::nets::{block, line, net_a, net_b, Draft, Kind};
 use crate::plain::{self, Checked, Judged, Planned};
 
 /// Net A's bytes as 01 prints them.
 const NET_A: &str = "01 0008 00040001 00010001 02 0010 00000001 00000000 0000000000000000 \
                      05 0018 0000 000A 0000000A 00000014 00000005 000000000000033E";
+
+/// The same with via resistance 0 on layer 0 and 2 on layer 1.
+const NET_A_WITH_VIAS: &str = "07 000C 000400010000 000100010002 02 0010 00000001 00000000 0000000000000000 \
+                               05 0018 0000 000A 0000000A 00000014 00000005 000000000000033E";
+
+/// Its driver's field.
+const DRIVER: &str = "02 0010 00000001 00000000 0000000000000000";
 
 /// The slack of a line of 63 buffers on layer 0: 16 ticks are spent in stage 0, 17 in each of the others.
 const SLACK_63: i64 = 1_000_000_000_000_000 - 16 - 63 * 17;
@@ -20,6 +27,10 @@ pub fn run(c: &mut Comparison) -> Outcome {
     judging_rows(c)?;
     planning_rows(c)?;
     length_rows(c)?;
+    via_rows(c)?;
+    empty_edge_rows(c)?;
+    via_limit_rows(c)?;
+    edition_rows(c)?;
     report_rows(c)
 }
 
@@ -138,6 +149,171 @@ fn length_rows(c: &mut Comparison) -> Outcome {
     Ok(())
 }
 
+/// "Net A with via 0 on layer 0 and 2 on layer 1 takes 310 ticks on layer 1" (02, wish 5): 230 + 2 × 2 × 15 + 2 × 2 × 5. Net
+/// B with the same vias takes 310 in stage 0 on layer 1, where the buffer's pin is climbed to, and 313 in stage 1; on layer
+/// 0 it takes 830 and 833 as before.
+fn via_rows(c: &mut Comparison) -> Outcome {
+    use Says::{Plan, Refused};
+    let with = |draft: Draft| draft.with_vias(&[0, 2]).bytes();
+    let a = |required| with(net_a(required));
+    let b = |required| {
+        let mut draft = net_b();
+        draft.nodes[1].kind = Kind::Sink { capacitance: 5, required };
+        with(draft)
+    };
+    assert_eq!(from_hex(NET_A_WITH_VIAS), a(830));
+    reading_row(c, "row: A with vias", &from_hex(NET_A_WITH_VIAS), [0, 2, 1, 2])?;
+    reading_row(c, "row: B with vias", &b(1_063), [0, 3, 2, 2])?;
+    for (bytes, plan, cost, slack) in [
+        (a(830), &[0][..], 10, 0),
+        (a(830), &[1], 20, 520),
+        (a(310), &[1], 20, 0),
+        (a(309), &[1], 20, -1),
+        (b(1_063), &[0, 0], 22, -600),
+        (b(1_063), &[0, 1], 35, -80),
+        (b(1_063), &[1, 0], 32, -80),
+        (b(1_063), &[1, 1], 45, 440),
+    ] {
+        let name = format!("row: with vias, judged {plan:?}: {slack}");
+        judging_row(c, &name, &bytes, plan, Judged { refusal: 0, cost, slack })?;
+    }
+    for (name, bytes, (p, q), table_len, says) in [
+        ("A, required 830", a(830), (0, 1), 33, Plan(&[0], 10, 0, 0)),
+        ("A, required 829", a(829), (0, 1), 63, Plan(&[1], 20, 519, 0)),
+        ("A, required 310", a(310), (0, 1), 63, Plan(&[1], 20, 0, 0)),
+        ("A, required 310, a column short", a(310), (0, 1), 62, Refused(12)),
+        ("A, required 309", a(309), (0, 1), 8_192, Refused(11)),
+        // V(0) is 45 where the vias leave the plan 1 1 alone.
+        ("B [0/1]", b(1_063), (0, 1), 184, Plan(&[1, 1], 45, 440, 0)),
+        ("B [0/1], 183 entries", b(1_063), (0, 1), 183, Refused(12)),
+        ("B [1/4], as the program", b(1_063), (1, 4), 8_192, Plan(&[1, 1], 45, 440, 2)),
+        ("B, 80 ticks later, [0/1]", b(1_143), (0, 1), 132, Plan(&[1, 0], 32, 0, 0)),
+        ("B, 80 ticks later, [2/1]", b(1_143), (2, 1), 8, Plan(&[0, 1], 35, 0, 4)),
+        ("B, 79 ticks later, [0/1]", b(1_142), (0, 1), 8_192, Plan(&[1, 1], 45, 519, 0)),
+        ("B, required 623", b(623), (1, 1), 8_192, Plan(&[1, 1], 45, 0, 4)),
+        ("B, required 622", b(622), (1, 1), 8_192, Refused(11)),
+    ] {
+        planning_row(c, (&format!("row: with vias, {name}"), &bytes), (p, q), (table_len, 64), says)?;
+    }
+    Ok(())
+}
+
+/// Net A with an edge of length 0 and via 2 on layer 0: the gate takes 10 ticks, the climbs at the root and at the sink 20
+/// each.
+fn empty_edge_rows(c: &mut Comparison) -> Outcome {
+    let short = |required: i64| {
+        let mut draft = net_a(required).with_vias(&[2, 0]);
+        draft.nodes[0].length = 0;
+        draft.bytes()
+    };
+    for (layer, cost, slack) in [(0, 10, 0), (1, 20, 40)] {
+        let name = format!("row: length 0 with vias, judged {layer}");
+        judging_row(c, &name, &short(50), &[layer], Judged { refusal: 0, cost, slack })?;
+    }
+    for (required, says) in [
+        (50, Says::Plan(&[0], 10, 0, 0)),
+        (49, Says::Plan(&[1], 20, 39, 0)),
+        (10, Says::Plan(&[1], 20, 0, 0)),
+        (9, Says::Refused(11)),
+    ] {
+        let name = format!("row: length 0 with vias, required {required}");
+        planning_row(c, (&name, &short(required)), (0, 1), (8_192, 64), says)?;
+    }
+    Ok(())
+}
+
+/// Net A with its second via at the limit and beyond, in each of the three calls: 1,000 climbs for 2,000 × 20 ticks.
+fn via_limit_rows(c: &mut Comparison) -> Outcome {
+    for (vias, slack) in [([0, 1_000], [40_000, 600]), ([1_000, 0], [0, 40_600]), ([1_000, 1_000], [0, 600])] {
+        let (name, bytes) = (format!("row: vias {vias:?}"), net_a(40_830).with_vias(&vias).bytes());
+        reading_row(c, &name, &bytes, [0, 2, 1, 2])?;
+        for (layer, cost) in [(0, 10), (1, 20)] {
+            let expected = Judged { refusal: 0, cost, slack: slack[layer as usize] };
+            judging_row(c, &name, &bytes, &[layer], expected)?;
+        }
+        planning_row(c, (&name, &bytes), (0, 1), (8_192, 64), Says::Plan(&[0], 10, slack[0], 0))?;
+    }
+    for via in [1_001, 1_023, 1_024, 4_000, 32_768, 65_535] {
+        for vias in [[0, via], [via, 0]] {
+            let (name, bytes) = (format!("row: vias {vias:?}"), net_a(830).with_vias(&vias).bytes());
+            reading_row(c, &name, &bytes, [3, 0, 0, 0])?;
+            judging_row(c, &name, &bytes, &[0], Judged { refusal: 3, ..Default::default() })?;
+            planning_row(c, (&name, &bytes), (0, 1), (8_192, 64), Says::Refused(3))?;
+        }
+    }
+    Ok(())
+}
+
+/// The lengths of either tag, and the first fault in and after a field of tag 7: "Refusals 2 and 3 cover the new field in
+/// their old places; tag 7's length is a multiple of 6 from 6 to 96".
+fn edition_rows(c: &mut Comparison) -> Outcome {
+    for (tag, length, layers) in [
+        (1, 4, 1),
+        (1, 12, 3),
+        (1, 24, 6),
+        (1, 48, 12),
+        (1, 60, 15),
+        (1, 64, 16),
+        (7, 6, 1),
+        (7, 12, 2),
+        (7, 24, 4),
+        (7, 48, 8),
+        (7, 60, 10),
+        (7, 66, 11),
+        (7, 90, 15),
+        (7, 96, 16),
+    ] {
+        reading_row(c, &format!("row: tag {tag}, {length} bytes"), &of_ones(tag, length, layers), [0, 2, 1, layers])?;
+    }
+    let tag_1 = [0, 6, 10, 18, 30, 54, 65, 66, 68, 72, 90, 96].map(|length| (1, length));
+    let tag_7 = [0, 3, 4, 5, 7, 8, 10, 16, 64, 68, 94, 95, 97, 98, 100, 102, 108].map(|length| (7, length));
+    let others = [0, 6, 8, 9, 15, 23].into_iter().flat_map(|tag| [(tag, 4), (tag, 6), (tag, 12)]);
+    for (tag, length) in tag_1.into_iter().chain(tag_7).chain(others) {
+        for layers in [length / 4, length / 6] {
+            reading_row(c, &format!("row: tag {tag}, {length} bytes"), &of_ones(tag, length, layers), [2, 0, 0, 0])?;
+        }
+    }
+    for (refusal, bytes) in [
+        (1, "07"),
+        (1, "07 00"),
+        (2, "07 0004"),
+        (2, "07 0066"),
+        (1, "07 0006"),
+        // The payload is looked at when it is all there.
+        (1, "07 0006 0000 0000 03"),
+        (1, "07 000C 0001 0001 03E9 0001 0001 03"),
+        (3, "07 0006 0000 0001 0000"),
+        (3, "07 0006 0001 03E9 0000"),
+        (3, "07 0006 0001 0001 03E9"),
+        (3, "07 000C 0001 0001 03E9 0001 0001 0000"),
+        (3, "07 000C 0001 0001 0000 0001 0001 03E9"),
+        // Before the driver's field is.
+        (3, "07 0006 0001 0001 03E9 02"),
+        (3, "07 0006 0001 0001 03E9 09 0010"),
+        (3, "07 0006 0001 0001 FFFF 02 0010 FFFFFFFF 00000000 0000000000000000"),
+        (1, "07 0006 0001 0001 03E8"),
+        (2, "07 0006 0001 0001 03E8 09 0010"),
+        // One layers field, of either edition.
+        (2, "07 0006 0001 0001 0000 07 0006 0001 0001 0000"),
+        (2, "01 0004 0001 0001 07 0006 0001 0001 0000"),
+        (2, "07 0006 0001 0001 0000 01 0004 0001 0001"),
+    ] {
+        reading_row(c, &format!("row: {bytes}"), &from_hex(bytes), [refusal, 0, 0, 0])?;
+    }
+    Ok(())
+}
+
+/// A net of the driver and one sink, with as many costs as there are layers, after a field of this tag and length: each of
+/// its numbers is 1, of whatever edition it is.
+fn of_ones(tag: u8, length: u16, layers: impl Into<u64>) -> Vec<u8> {
+    let ones: Vec<u8> = (0..length).map(|place| (place % 2) as u8).collect();
+    let costs = [0, 0, 0, 1].repeat(layers.into() as usize);
+    let sink_length = 16 + costs.len() as u16;
+    let head = |tag: u8, length: u16| [&[tag][..], &length.to_be_bytes()].concat();
+    let sink = [&[0, 0, 0, 1][..], &costs, &[0; 12]].concat();
+    [head(tag, length), ones, from_hex(DRIVER), head(5, sink_length), sink].concat()
+}
+
 /// The report's example in 02, the block of no nets, a net of no bytes, and 13: the totals, and every byte of the text.
 fn report_rows(c: &mut Comparison) -> Outcome {
     let mut row = |name: &str, bytes: &[u8], totals: Totals, text: &str| {
@@ -155,6 +331,14 @@ fn report_rows(c: &mut Comparison) -> Outcome {
         totals,
         "nets 2\nplanned 1\nrefused 11 1\ncost 35\nlength 0 10\nlength 1 10\n",
     )?;
+    // With vias of 2 on layer 1 the program takes layer 1 for both of B's stages, and A is late by one tick.
+    let with_vias = |draft: Draft| draft.with_vias(&[0, 2]).bytes();
+    let editions = block(&[net_b().bytes(), with_vias(net_b()), with_vias(net_a(309)), with_vias(net_a(310))]);
+    let mut totals = Totals { nets: 4, planned: 3, cost: 35 + 45 + 20, ..Default::default() };
+    totals.refused[11] = 1;
+    totals.lengths[..2].copy_from_slice(&[10, 10 + 20 + 10]);
+    let text = "nets 4\nplanned 3\nrefused 11 1\ncost 100\nlength 0 10\nlength 1 40\n";
+    row("row: both editions", &editions, totals, text)?;
     row("row: an empty file", &[], Totals::default(), "nets 0\nplanned 0\ncost 0\n")?;
     let mut totals = Totals { nets: 1, ..Default::default() };
     totals.refused[1] = 1;

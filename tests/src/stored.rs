@@ -145,6 +145,14 @@ impl Question {
 }
 
 impl Answer {
+    pub fn refusal(&self) -> u8 {
+        match self {
+            Answer::Check(Checked { refusal, .. }) => *refusal,
+            Answer::Judge(Judged { refusal, .. }) => *refusal,
+            Answer::Plan(Planned { refusal, .. }, _) => *refusal,
+        }
+    }
+
     /// The plan opens the buffer, if there is one.
     fn planned(answer: Planned, buffer: &[u8], stages: usize) -> Answer {
         let plan = if answer.refusal == 0 { buffer[..stages].to_vec() } else { vec![] };

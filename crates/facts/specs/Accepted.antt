@@ -4,21 +4,23 @@ use mathlib.Core.Path.{_≡_, refl, ap, sym, _∙_}
 use mathlib.Core.Bool.{Bool, true, false, not, _||_}
 use mathlib.Core.Logic.{_⊎_, inl, inr}
 use mathlib.Core.List.{List, [], _∷_, _++_, map}
-use Prim.Native.Nat.{ℕ, zero, suc, _+_, _*_, _-_, _/_, _%_, _≤_, _<_}
+use Prim.Native.Nat.{ℕ, zero, suc, _+_, _-_, _≤_, _<_}
 use native.Mathlib.Omega.{arith}
 use native.Mathlib.Nat.{zero-add}
 use native.Mathlib.Numerals.{one-add}
 use lib.Dec.{leb, ltb, eqb}
-use lib.ListN.{length, getD, length-map}
+use lib.ListN.{length, getD}
 use borrow.Author.Tests.{eqb-true, ne-eqb, leb-true, ltb-true, not-true}
-use Rattle.laws.specs.Basic.{bit, from, all, keep, within}
-use Rattle.laws.specs.Booleans.{and-left, and-right, or-right, same-or, bit-le, and-three, within-true}
-use Rattle.laws.specs.Lists.{length-from, length-more, last-is, others-are, keep-more, all-at, some-passes, count-by-number}
+use Rattle.laws.specs.Basic.{bit, from, all, keep}
+use Rattle.laws.specs.Booleans.{and-left, and-right, or-right, same-or, bit-le, and-three}
+use Rattle.laws.specs.Lists.{length-more, last-is, others-are, keep-more, all-at, some-passes, count-by-number}
 use Rattle.rules.specs.Tree.{Node, Net, isSink, isBuffer, noNode, node, at, edges, childrenOf, roots, stages, layerCount}
-use Rattle.rules.specs.Bytes.{layersTag, maxLayers, maxLength, maxNodes, maxStages, maxChildren, isLayer, isDriver, isKind, isCosts, isNode}
-use Rattle.rules.specs.Bytes.{Field, fieldAt, next, dueLayers, dueDriver, layerAt, layersAt, driverAt, nodeAt}
+use Rattle.rules.specs.Bytes.{maxLayers, maxLength, maxNodes, maxStages, maxChildren, isLayer, isDriver, isKind, isCosts, isNode}
+use Rattle.rules.specs.Bytes.{Field, next, dueLayers, dueDriver, layersAt, driverAt, nodeAt}
 use Rattle.rules.specs.Reading.{accept, field, children, buffers, hasRoom, isParent, nodeField, nodesFrom, isWhole, readTo, read}
 use Rattle.facts.specs.Answers.{not-refused, accept-injective, then-accepted, unless-accepted}
+use Rattle.facts.specs.Fields.{field-there}
+use Rattle.facts.specs.Layers.{layers-held, layer-number}
 use Rattle.facts.specs.Nodes.{afterField, nodesTurn, field-taken}
 
 -- Node j is a child of node i.
@@ -188,17 +190,9 @@ whole-has-child n w i h s =
 
 -- A layers field holds 1 to 16 layers.
 layers-read : (bs : List ℕ) (f : Field) → field dueLayers bs 0 ≡ accept f → (1 ≤ length (layersAt bs f)) × (length (layersAt bs f) ≤ maxLayers)
-unfolding field dueLayers layersAt
 layers-read bs f a =
-    let g = fieldAt bs 0 in
-    let (r1, a1) = unless-accepted 1 (leb (0 + 3) (length bs)) _ a in
-    let (due, a2) = unless-accepted 2 (dueLayers (g .tag) (g .size)) _ a1 in
-    let (r3, a3) = unless-accepted 1 (leb (next g) (length bs)) _ a2 in
-    let (tag, size, four) = and-three (eqb (g .tag) layersTag) (within 4 (4 * maxLayers) (g .size)) (eqb (g .size % 4) 0) due in
-    let (low, high) = within-true 4 (4 * maxLayers) (g .size) size in
-    let many = length-map (from 0 (f .size / 4)) (λ k. layerAt bs (f .start + 4 * k)) ∙ length-from 0 (f .size / 4) in
-    let same : g .size ≡ f .size = ap (λ (f : Field). f .size) (accept-injective a3) in
-    (omega arith, omega arith)
+    let H = layers-held (f .tag) (f .size) (field-there dueLayers bs 0 a .is-due) in
+    (rw (layer-number bs f) (H .some), rw (layer-number bs f) (H .few))
 
 -- Whatever net reading accepts has these properties.
 pub accepted : (bs : List ℕ) (n : Net) → read bs ≡ accept n → Accepted n
@@ -208,9 +202,9 @@ accepted bs n e =
     let (layers, b2) = unless-accepted 3 (all (map isLayer (layersAt bs f))) _ b1 in
     let (g, a2, b3) = then-accepted (field dueDriver bs (next f)) _ b2 in
     let (driver, b4) = unless-accepted 3 (isDriver (driverAt bs (g .start))) _ b3 in
-    let (ns, a3, b5) = then-accepted (nodesFrom maxLength (maxNodes + 1) bs (f .size / 4) [] (next g)) _ b4 in
+    let (ns, a3, b5) = then-accepted (nodesFrom maxLength (maxNodes + 1) bs (length (layersAt bs f)) [] (next g)) _ b4 in
     let (whole, b6) = unless-accepted 6 (isWhole ns) _ b5 in
-    let R = nodes-read (maxNodes + 1) bs (f .size / 4) [] (next g) none-read a3 in
+    let R = nodes-read (maxNodes + 1) bs (length (layersAt bs f)) [] (next g) none-read a3 in
     rw (← accept-injective b6) (all-of f g ns (layers-read bs f a1) layers driver R whole)
   where
     all-of : (f g : Field) (ns : List Node) → (1 ≤ length (layersAt bs f)) × (length (layersAt bs f) ≤ maxLayers) → all (map isLayer (layersAt bs f)) ≡ true

@@ -13,13 +13,15 @@ use Rattle.laws.specs.Lists.{mem-map, map-mem, some-mem}
 use Rattle.rules.specs.declared.Kind.{Kind}
 use Rattle.rules.specs.declared.Kind.the-variants.{Steiner, Buffer, Sink}
 use Rattle.rules.specs.Tree.{Net, isBuffer, isTerminal, at, isRoot, stages, root, drives, stageOf, terminals, on}
-use Rattle.rules.specs.Bytes.{maxGateRes, maxIntrinsic, maxTime, maxNodes}
-use Rattle.rules.specs.Timing.{edgeCap, lowerLoad, load, edgeDelay, gateRes, gateDelay, wireDelay, terminalTime, required, slack}
+use Rattle.rules.specs.Bytes.{maxViaRes, maxGateRes, maxInputCap, maxIntrinsic, maxTime, maxNodes}
+use Rattle.rules.specs.Timing.{layer, edgeCap, lowerLoad, load, edgeDelay, gateRes, rootVia, gateDelay, inputCap, terminalVia, wireDelay}
+use Rattle.rules.specs.Timing.{terminalTime, required, slack}
 use Rattle.facts.specs.Accepted.{Accepted}
 use Rattle.facts.specs.Stages.{EdgeOf, TerminalOf, root-is-buffer, root-drives, stages-some, drives-below, terminal-mem, mem-terminal}
 use Rattle.facts.specs.Stages.{not-root, stage-up, root-before, stage-less, stage-ends}
 use Rattle.facts.specs.Words.{sink-time, buffer-time, asked, wire-root, wire-up, required-is}
-use Rattle.facts.specs.Ranges.{maxEdgeRes, maxEdgeCap, kind-in, edge-res-in, edge-cap-in, gate-res-in, gate-intrinsic-in, arrival-in}
+use Rattle.facts.specs.Ranges.{maxEdgeRes, maxEdgeCap, kind-in, edge-res-in, edge-cap-in, via-res-in, input-cap-in, gate-res-in, gate-intrinsic-in}
+use Rattle.facts.specs.Ranges.{arrival-in}
 use Rattle.facts.specs.Loads.{maxLoad, load-in, lower-in}
 
 -- The greatest edge delay and gate delay.
@@ -27,13 +29,17 @@ abbrev pub maxEdgeDelay : ℕ
 maxEdgeDelay = maxEdgeRes * (maxEdgeCap + 2 * maxLoad)
 
 abbrev pub maxGateDelay : ℕ
-maxGateDelay = 2 * maxGateRes * maxLoad + maxIntrinsic
+maxGateDelay = 2 * maxGateRes * maxLoad + maxIntrinsic + 2 * maxViaRes * maxLoad
 
--- The most delay that one node accounts for: the edge to it and one gate.
+-- The most that is paid for the via at a terminal.
+abbrev pub maxTerminalVia : ℕ
+maxTerminalVia = 2 * maxViaRes * maxInputCap
+
+-- The most delay that one node accounts for: the edge to it, the via at it, and one gate.
 abbrev pub maxNodeDelay : ℕ
-maxNodeDelay = maxEdgeDelay + maxGateDelay
+maxNodeDelay = maxEdgeDelay + maxTerminalVia + maxGateDelay
 
--- The greatest delay on the way from the driver to a sink: a way has at most as many edges and gates as there are nodes.
+-- The greatest delay on the way from the driver to a sink: a way has at most as many edges, vias at terminals and gates as there are nodes.
 abbrev pub maxWayDelay : ℕ
 maxWayDelay = maxNodes * maxNodeDelay
 
@@ -58,31 +64,38 @@ module _ {n : Net} (A : Accepted n) where
       mul-le-mul (edge-res-in A l j) c
 
   pub gate-in : (l t : ℕ) → gateDelay n l t ≤ maxGateDelay
-  unfolding gateDelay
+  unfolding gateDelay rootVia
   gate-in l t =
       let i = root n t in
       let p : gateRes n i * load n l i ≤ maxGateRes * maxLoad = mul-le-mul (gate-res-in A i) (load-in A l i) in
+      let v : layer n l .viaRes * load n l i ≤ maxViaRes * maxLoad = mul-le-mul (via-res-in A l) (load-in A l i) in
       omega (arith, gate-intrinsic-in A i)
 
+  pub via-in : (l j : ℕ) → terminalVia n l j ≤ maxTerminalVia
+  unfolding terminalVia
+  via-in l j =
+      let v : layer n l .viaRes * inputCap (at n j .kind) ≤ maxViaRes * maxInputCap = mul-le-mul (via-res-in A l) (input-cap-in A j) in
+      omega arith
+
   -- k bounds the edges on the way.
-  wire-most : (l k j : ℕ) → j ≤ k → 1 ≤ j → j ≤ length (n .nodes) → wireDelay n l j ≤ (j - root n (stageOf n j)) * maxEdgeDelay
+  wire-most : (l k j : ℕ) → j ≤ k → 1 ≤ j → j ≤ length (n .nodes) → wireDelay n l j ≤ (j - root n (stageOf n j)) * (maxEdgeDelay + maxTerminalVia)
   wire-most l zero j h a b = absurd (omega arith)
   wire-most l (suc k) j h a b = go (isRoot n p) refl (λ c. wire-most l k p (omega (arith, A .parent-lower j a)) c (omega (arith, A .parent-lower j a)))
     where
       p : ℕ
       p = at n j .parent
 
-      go : (r : Bool) → isRoot n p ≡ r → (1 ≤ p → wireDelay n l p ≤ (p - root n (stageOf n p)) * maxEdgeDelay)
-          → wireDelay n l j ≤ (j - root n (stageOf n j)) * maxEdgeDelay
-      go true e r = omega (arith, root-before A j a b, wire-root A l j a e, edge-in l j)
+      go : (r : Bool) → isRoot n p ≡ r → (1 ≤ p → wireDelay n l p ≤ (p - root n (stageOf n p)) * (maxEdgeDelay + maxTerminalVia))
+          → wireDelay n l j ≤ (j - root n (stageOf n j)) * (maxEdgeDelay + maxTerminalVia)
+      go true e r = omega (arith, root-before A j a b, wire-root A l j a e, edge-in l j, via-in l j)
       go false e r =
           let q = ap (root n) (stage-up A j a e) in
           let c = not-root A p e .0 in
           let d = A .parent-lower j a in
-          omega (arith, r c, root-before A p c (omega arith), wire-up A l j a e, edge-in l j)
+          omega (arith, r c, root-before A p c (omega arith), wire-up A l j a b e, edge-in l j, via-in l j)
 
-  -- The edge delays between a node and the root of its stage: at most one edge for each number from the root on.
-  pub wire-in : (l j : ℕ) → 1 ≤ j → j ≤ length (n .nodes) → wireDelay n l j ≤ (j - root n (stageOf n j)) * maxEdgeDelay
+  -- The delay of the wire between a node and the root of its stage: at most one edge, and one via, for each number from the root on.
+  pub wire-in : (l j : ℕ) → 1 ≤ j → j ≤ length (n .nodes) → wireDelay n l j ≤ (j - root n (stageOf n j)) * (maxEdgeDelay + maxTerminalVia)
   wire-in l j = wire-most l j j (omega arith)
 
   -- The gate delay of a stage with the edge delays down to the lower end of one of its edges.

@@ -4,7 +4,7 @@ use mathlib.Core.Path.{_≡_, refl, ap, sym, _∙_}
 use mathlib.Core.Bool.{Bool, true, false}
 use mathlib.Core.Logic.{_⊎_, inl, inr}
 use mathlib.Core.List.{List, [], _∷_, _++_, map}
-use Prim.Native.Nat.{ℕ, zero, suc, _+_, _/_, _≤_}
+use Prim.Native.Nat.{ℕ, zero, suc, _+_, _≤_}
 use native.Mathlib.Omega.{arith}
 use lib.Dec.{leb}
 use lib.ListN.{length}
@@ -75,7 +75,7 @@ module _ {low high : ℕ} (le : low ≤ high) where
       unless-alike 3 (all (map isLayer (layersAt bs f)))
       (then-alike {x = field dueDriver bs (next f)} _ _ (inr refl) (λ g.
       unless-alike 3 (isDriver (driverAt bs (g .start)))
-      (then-alike _ _ (nodes-alike (maxNodes + 1) bs (f .size / 4) [] (next g)) (λ ns. inr refl)))))
+      (then-alike _ _ (nodes-alike (maxNodes + 1) bs (length (layersAt bs f)) [] (next g)) (λ ns. inr refl)))))
 
 -- The nodes that were read stay what they are.
 kept : (most k : ℕ) (bs : List ℕ) (L : ℕ) (ns : List Node) (i : ℕ) {ms : List Node} → nodesFrom most k bs L ns i ≡ accept ms
@@ -128,10 +128,10 @@ module _ (low high : ℕ) where
       let (layers, b2) = unless-accepted 3 (all (map isLayer (layersAt bs f))) _ b1 in
       let (g, a2, b3) = then-accepted (field dueDriver bs (next f)) _ b2 in
       let (driver, b4) = unless-accepted 3 (isDriver (driverAt bs (g .start))) _ b3 in
-      let (ns, a3, b5) = then-accepted (nodesFrom high (maxNodes + 1) bs (f .size / 4) [] (next g)) _ b4 in
+      let (ns, a3, b5) = then-accepted (nodesFrom high (maxNodes + 1) bs (length (layersAt bs f)) [] (next g)) _ b4 in
       let (whole, b6) = unless-accepted 6 (isWhole ns) _ b5 in
       let are : n .nodes ≡ ns = sym (ap (λ (m : Net). m .nodes) (accept-injective b6)) in
-      rw (a1, layers, a2, driver, nodes-short (maxNodes + 1) bs (f .size / 4) [] (next g) {ms = ns} a3 (λ j. rw are at (short j)), whole) b6
+      rw (a1, layers, a2, driver, nodes-short (maxNodes + 1) bs (length (layersAt bs f)) [] (next g) {ms = ns} a3 (λ j. rw are at (short j)), whole) b6
 
 -- The greatest length of 01, before wish 3 of 02.
 abbrev pub formerLength : ℕ

@@ -1,5 +1,6 @@
 pub mod Answers
 pub mod Fields
+pub mod Layers
 pub mod Nodes
 pub mod Accepted
 pub mod Stages

@@ -17,8 +17,9 @@ use Rattle.laws.specs.Lists.{all-getD}
 use Rattle.rules.specs.declared.Kind.{Kind}
 use Rattle.rules.specs.declared.Kind.the-variants.{Steiner, Buffer, Sink}
 use Rattle.rules.specs.Tree.{Layer, Net, at}
-use Rattle.rules.specs.Bytes.{maxUnit, maxLength, maxCost, maxGateRes, maxInputCap, maxIntrinsic, maxTime, isTime, isLayer, isDriver, isKind, isCosts, isNode}
-use Rattle.rules.specs.Timing.{layer, edgeRes, edgeCap, lowerLoad, gateRes, gateIntrinsic, edgeCost}
+use Rattle.rules.specs.Bytes.{maxUnit, maxViaRes, maxLength, maxCost, maxGateRes, maxInputCap, maxIntrinsic, maxTime}
+use Rattle.rules.specs.Bytes.{isTime, isLayer, isDriver, isKind, isCosts, isNode}
+use Rattle.rules.specs.Timing.{layer, edgeRes, edgeCap, lowerLoad, gateRes, gateIntrinsic, inputCap, edgeCost}
 use Rattle.facts.specs.Accepted.{Accepted}
 
 -- The greatest R and C of an edge: length × unit value.
@@ -31,6 +32,10 @@ maxEdgeCap = maxLength * maxUnit
 -- A time in the range of 01.
 abbrev pub TimeInRange : ℤ → Type 0
 TimeInRange t = (up t ≤ maxTime) × (down t ≤ maxTime)
+
+-- A layer's numbers in their ranges.
+abbrev pub LayerInRange : Layer → Type 0
+LayerInRange x = (x .unitRes ≤ maxUnit) × (x .unitCap ≤ maxUnit) × (x .viaRes ≤ maxViaRes)
 
 -- A kind's own numbers in their ranges.
 abbrev pub KindInRange : Kind → Type 0
@@ -47,11 +52,11 @@ time-range t e =
     let high = le-true t (pos maxTime) b in
     (omega (arith, thin t), omega (arith, thin t))
 
-layer-range : (x : Layer) → isLayer x ≡ true → (x .unitRes ≤ maxUnit) × (x .unitCap ≤ maxUnit)
+layer-range : (x : Layer) → isLayer x ≡ true → LayerInRange x
 unfolding isLayer
 layer-range x e =
-    let (r, c) = and-both (within 1 maxUnit (x .unitRes)) (within 1 maxUnit (x .unitCap)) e in
-    (within-true 1 maxUnit (x .unitRes) r .1, within-true 1 maxUnit (x .unitCap) c .1)
+    let (r, c, v) = and-three (within 1 maxUnit (x .unitRes)) (within 1 maxUnit (x .unitCap)) (leb (x .viaRes) maxViaRes) e in
+    (within-true 1 maxUnit (x .unitRes) r .1, within-true 1 maxUnit (x .unitCap) c .1, leb-true (x .viaRes) maxViaRes v)
 
 kind-range : (k : Kind) → isKind k ≡ true → KindInRange k
 unfolding isKind
@@ -72,9 +77,9 @@ module _ {n : Net} (A : Accepted n) where
   unfolding isDriver
   driver-range = and-three (leb (n .driver .gateRes) maxGateRes) (leb (n .driver .intrinsic) maxIntrinsic) (isTime (n .driver .arrival)) (A .driver-in-range)
 
-  unit-range : (l : ℕ) → (layer n l .unitRes ≤ maxUnit) × (layer n l .unitCap ≤ maxUnit)
+  layer-in : (l : ℕ) → LayerInRange (layer n l)
   unfolding layer
-  unit-range l = all-getD isLayer (λ x. (x .unitRes ≤ maxUnit) × (x .unitCap ≤ maxUnit)) layer-range (omega arith, omega arith) (n .layers) l (A .layers-in-range)
+  layer-in l = all-getD isLayer LayerInRange layer-range (omega arith, omega arith, omega arith) (n .layers) l (A .layers-in-range)
 
   pub length-in : (j : ℕ) → at n j .len ≤ maxLength
   length-in j = leb-true (at n j .len) maxLength (node-range j .0)
@@ -87,10 +92,13 @@ module _ {n : Net} (A : Accepted n) where
   edge-cost-in l j = all-getD (within 1 maxCost) (λ c. c ≤ maxCost) (λ c e. within-true 1 maxCost c e .1) (omega arith) (at n j .costs) l (node-range j .1)
 
   pub unit-res-in : (l : ℕ) → layer n l .unitRes ≤ maxUnit
-  unit-res-in l = unit-range l .0
+  unit-res-in l = layer-in l .0
 
   pub unit-cap-in : (l : ℕ) → layer n l .unitCap ≤ maxUnit
-  unit-cap-in l = unit-range l .1
+  unit-cap-in l = layer-in l .1
+
+  pub via-res-in : (l : ℕ) → layer n l .viaRes ≤ maxViaRes
+  via-res-in l = layer-in l .2
 
   pub edge-res-in : (l j : ℕ) → edgeRes n l j ≤ maxEdgeRes
   unfolding edgeRes
@@ -99,6 +107,15 @@ module _ {n : Net} (A : Accepted n) where
   pub edge-cap-in : (l j : ℕ) → edgeCap n l j ≤ maxEdgeCap
   unfolding edgeCap
   edge-cap-in l j = mul-le-mul (length-in j) (unit-cap-in l)
+
+  -- The input capacitance of a terminal; none at a Steiner point.
+  pub input-cap-in : (j : ℕ) → inputCap (at n j .kind) ≤ maxInputCap
+  input-cap-in j = go (at n j .kind) (kind-in j)
+    where
+      go : (k : Kind) → KindInRange k → inputCap k ≤ maxInputCap
+      go Steiner h = omega arith
+      go (Buffer c r d) h = h .0
+      go (Sink c t) h = h .0
 
   -- The load at the lower end of an edge: in the range of input capacitances at a terminal, what f gives at a Steiner point.
   pub lower-range : (f : ℕ → ℕ) (j : ℕ) → (lowerLoad n f j ≤ maxInputCap) ⊎ (lowerLoad n f j ≡ f j)

@@ -2,7 +2,7 @@
 use mathlib.Core.Path.{_≡_, refl, sym}
 use mathlib.Core.Bool.{Bool, true, false}
 use mathlib.Core.List.{List, [], _∷_, _++_, map}
-use Prim.Native.Nat.{ℕ, zero, suc, _+_, _/_, _≤_}
+use Prim.Native.Nat.{ℕ, zero, suc, _+_, _≤_}
 use native.Mathlib.Omega.{arith}
 use lib.Dec.{leb}
 use lib.ListN.{length}
@@ -67,5 +67,6 @@ read-numbered bs =
     unless-numbered 3 (all (map isLayer (layersAt bs f))) _ (omega arith) (omega arith)
     (then-numbered (field dueDriver bs (next f)) _ (field-low dueDriver bs (next f)) (λ g.
     unless-numbered 3 (isDriver (driverAt bs (g .start))) _ (omega arith) (omega arith)
-    (then-numbered (nodesFrom maxLength (maxNodes + 1) bs (f .size / 4) [] (next g)) _ (nodes-low maxLength (maxNodes + 1) bs (f .size / 4) [] (next g)) (λ ns.
+    (then-numbered (nodesFrom maxLength (maxNodes + 1) bs (length (layersAt bs f)) [] (next g)) _
+    (nodes-low maxLength (maxNodes + 1) bs (length (layersAt bs f)) [] (next g)) (λ ns.
     unless-numbered 6 (isWhole ns) _ (omega arith) (omega arith) (accept-numbered 6 _))))))

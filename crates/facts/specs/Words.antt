@@ -3,7 +3,7 @@
 use mathlib.Core.Path.{_≡_, refl, ap, sym, _∙_}
 use mathlib.Core.Bool.{true, false}
 use mathlib.Core.List.{List, map}
-use Prim.Native.Nat.{ℕ, zero, suc, _+_, _≤_, _<_}
+use Prim.Native.Nat.{ℕ, zero, suc, _+_, _*_, _≤_, _<_}
 use native.Mathlib.Omega.{arith}
 use native.Mathlib.Nat.{add-zero}
 use lib.ListN.{length}
@@ -13,10 +13,11 @@ use Rattle.laws.specs.Lists.{map-same}
 use Rattle.laws.specs.Sums.{sum-none}
 use Rattle.rules.specs.declared.Kind.{Kind}
 use Rattle.rules.specs.declared.Kind.the-variants.{Steiner, Buffer, Sink}
-use Rattle.rules.specs.Tree.{Net, isBuffer, at, childrenOf, isRoot, stages, drives, terminals, on}
-use Rattle.rules.specs.Timing.{edgeCap, lowerLoad, loadFrom, load, edgeDelay, gateDelay, wireDelay, terminalTime, requiredFrom, required}
+use Rattle.rules.specs.Tree.{Net, isSink, isBuffer, at, childrenOf, isRoot, stages, drives, terminals, on}
+use Rattle.rules.specs.Timing.{layer, edgeCap, lowerLoad, loadFrom, load, edgeDelay, gateDelay, inputCap, terminalVia, wireDelay}
+use Rattle.rules.specs.Timing.{terminalTime, requiredFrom, required}
 use Rattle.facts.specs.Accepted.{Accepted}
-use Rattle.facts.specs.Stages.{child-mem, terminal-mem, between-root, between-up, stage-less, drives-below}
+use Rattle.facts.specs.Stages.{child-mem, terminal-mem, root-is-buffer, not-root, between-root, between-up, stage-less, drives-below}
 
 -- A sink's required time is given.
 pub sink-time : (n : Net) (f : ℕ → ℤ) (j : ℕ) {c : ℕ} {t : ℤ} → at n j .kind ≡ Sink c t → terminalTime n f j ≡ t
@@ -72,14 +73,28 @@ module _ {n : Net} (A : Accepted n) where
   unfolding load
   load-is l i = sym (load-more l (length (n .nodes) + 1) i (omega arith)) ∙ (unfold loadFrom in refl)
 
-  -- The edge delays between: that of the edge itself, and below a Steiner point those of the point.
-  pub wire-root : (l j : ℕ) → 1 ≤ j → isRoot n (at n j .parent) ≡ true → wireDelay n l j ≡ edgeDelay n l j
-  unfolding wireDelay
-  wire-root l j h e = rw (between-root A j h e) (add-zero (edgeDelay n l j))
+  -- The parent of an edge is a root or a Steiner point, and at a Steiner point there is no via.
+  no-via : (l j : ℕ) → 1 ≤ j → j ≤ length (n .nodes) → isRoot n (at n j .parent) ≡ false → terminalVia n l (at n j .parent) ≡ 0
+  unfolding terminalVia
+  no-via l j h b e = go (at n p .kind) (sym (root-is-buffer n p (not-root A p e .0)) ∙ e) (A .parent-no-sink j h b)
+    where
+      p : ℕ
+      p = at n j .parent
 
-  pub wire-up : (l j : ℕ) → 1 ≤ j → isRoot n (at n j .parent) ≡ false → wireDelay n l j ≡ edgeDelay n l j + wireDelay n l (at n j .parent)
+      go : (k : Kind) → isBuffer k ≡ false → isSink k ≡ false → 2 * layer n l .viaRes * inputCap k ≡ 0
+      go Steiner r s = omega arith
+      go (Buffer c r d) r′ s = let z : _≡_ {A = ℕ} 0 1 = cc in absurd (omega arith)
+      go (Sink c t) r s = let z : _≡_ {A = ℕ} 0 1 = cc in absurd (omega arith)
+
+  -- The delay of the wire to j: that of the edge itself and of the via at j, and below a Steiner point that of the wire to the point.
+  pub wire-root : (l j : ℕ) → 1 ≤ j → isRoot n (at n j .parent) ≡ true → wireDelay n l j ≡ edgeDelay n l j + terminalVia n l j
   unfolding wireDelay
-  wire-up l j h e = rw (between-up A j h e) refl
+  wire-root l j h e = rw (between-root A j h e, add-zero (edgeDelay n l j)) refl
+
+  pub wire-up : (l j : ℕ) → 1 ≤ j → j ≤ length (n .nodes) → isRoot n (at n j .parent) ≡ false
+      → wireDelay n l j ≡ edgeDelay n l j + terminalVia n l j + wireDelay n l (at n j .parent)
+  unfolding wireDelay
+  wire-up l j h b e = rw (between-up A j h e) (omega (arith, no-via l j h b e))
 
   -- One more on the bound changes nothing here either.
   required-more : (x : List ℕ) (k t : ℕ) → t < stages n → stages n ≤ k + t → requiredFrom (suc k) n x t ≡ requiredFrom k n x t

@@ -1,8 +1,8 @@
 -- What the definitions of 01 give at the values that the code has in hand: a law for each outcome of a read or a test.
 use mathlib.Core.Path.{_≡_, refl, ap, _∙_}
-use mathlib.Core.Bool.{Bool, true, false}
+use mathlib.Core.Bool.{Bool, true, false, _&&_, _||_}
 use mathlib.Core.List.{List}
-use Prim.Native.Nat.{ℕ, zero, suc, _+_, _*_, _-_, _^_, _<_, _≤_}
+use Prim.Native.Nat.{ℕ, zero, suc, _+_, _*_, _-_, _^_, _/_, _%_, _<_, _≤_}
 use native.Mathlib.Nat.{pow-le-pow-right, pow-suc, lt-of-lt-of-le, zero-add}
 use native.Mathlib.Numerals.{add-one}
 use native.Mathlib.Omega.{arith}
@@ -13,8 +13,8 @@ use lib.Signed.{leZ}
 use mir.Syntax.{w64}
 use mir.Val.{toZ, SFits}
 use borrow.Author.Tests.{lt-ltb, le-ltb, le-leb, lt-leb, leb-true, leb-false}
-use Rattle.laws.specs.Basic.{if_then_else_}
-use Rattle.rules.specs.Bytes.{Field, maxTime, number, signed, fieldAt, next, kindSize, isTime}
+use Rattle.laws.specs.Basic.{if_then_else_, within}
+use Rattle.rules.specs.Bytes.{Field, maxTime, maxLayers, layersTag, viaLayersTag, number, signed, fieldAt, next, layerSize, dueLayers, kindSize, isTime}
 use Rattle.rules.specs.Reading.{accept, refuse, _>>_, _unless_, field}
 
 -- a number of fewer than four bytes has room for one byte more
@@ -114,6 +114,40 @@ field-inside due bs i e =
     let v = inverted (leb (i + 3) (length bs)) (due (number bs i 1) (number bs (i + 1) 2))
     (leb (i + 3 + number bs (i + 1) 2) (length bs)) {g = fieldAt bs i} e in
     rw (v .2) (record { is = refl; begins = refl; ends = leb-true _ _ (v .1); allowed = v .0 })
+
+-- a layer takes four bytes or six
+pub layer-size-in : (tag : ℕ) → (4 ≤ layerSize tag) × (layerSize tag ≤ 6)
+layer-size-in tag = go (eqb tag viaLayersTag)
+  where
+    go : (b : Bool) → (4 ≤ (if b then 6 else 4)) × ((if b then 6 else 4) ≤ 6)
+    go true = (omega arith, omega arith)
+    go false = (omega arith, omega arith)
+
+-- the layers of a payload are the first and those after it
+pub first-and-rest : (tag size : ℕ) → layerSize tag ≤ size → 1 + (size - layerSize tag) / layerSize tag ≡ size / layerSize tag
+first-and-rest tag size = go (eqb tag viaLayersTag)
+  where
+    go : (b : Bool) → (if b then 6 else 4) ≤ size → 1 + (size - (if b then 6 else 4)) / (if b then 6 else 4) ≡ size / (if b then 6 else 4)
+    go true h = omega arith
+    go false h = omega arith
+
+-- a layers field, by its tests in their order; t is whether its tag is one of layers and w the size of a layer, as the code has them
+module _ (tag size : ℕ) {t : Bool} {w : ℕ} (et : t ≡ (eqb tag layersTag || eqb tag viaLayersTag)) (ew : w ≡ layerSize tag) where
+  due-is : t && within w (w * maxLayers) size && eqb (size % w) 0 ≡ dueLayers tag size
+  unfolding dueLayers
+  due-is = rw (et, ew) refl
+
+  pub layers-other : t ≡ false → false ≡ dueLayers tag size
+  layers-other e = rw e at due-is
+
+  pub layers-none : t ≡ true → size < w → false ≡ dueLayers tag size
+  layers-none e h = rw (e, lt-leb _ _ h) at due-is
+
+  pub layers-many : t ≡ true → w ≤ size → w * maxLayers < size → false ≡ dueLayers tag size
+  layers-many e h k = rw (e, le-leb _ _ h, lt-leb _ _ k) at due-is
+
+  pub layers-whole : t ≡ true → w ≤ size → size ≤ w * maxLayers → eqb (size % w) 0 ≡ dueLayers tag size
+  layers-whole e h k = rw (e, le-leb _ _ h, le-leb _ _ k) at due-is
 
 -- a kind's own numbers take at most 12 bytes
 pub kind-size-le : (tag : ℕ) → kindSize tag ≤ 12

@@ -1,12 +1,12 @@
 // Numbers, times, fields and ranges in net bytes (01, Net bytes and Reading), the leaves of the reader; and the range of a share (01, Planning).
 use rules::Kind;
 ghost use mathlib.Core.Path.{_≡_};
-ghost use mathlib.Core.Bool.{_&&_};
+ghost use mathlib.Core.Bool.{_&&_, _||_};
 ghost use Prim.Native.Nat.{_+_, _*_, _≤_};
-ghost use lib.Dec.{leb};
+ghost use lib.Dec.{leb, eqb};
 ghost use lib.ListN.{length};
 ghost use Rattle.laws.specs.Basic.{within};
-ghost use Rattle.rules.specs.Bytes.{maxLayers, number, signed, kindSize, isTime, isKind};
+ghost use Rattle.rules.specs.Bytes.{maxLayers, layersTag, viaLayersTag, number, signed, layerSize, dueLayers, kindSize, isTime, isKind};
 ghost use Rattle.rules.specs.Reading.{field};
 ghost use Rattle.rules.specs.Planning.{maxShare};
 ghost use Rattle.fields.specs.Fields.{dueOf, foundField, foundRefusal};
@@ -62,24 +62,47 @@ fn kind_size(tag: u32) -> usize
     if tag == 3 { 0 } else { 12 }
 }
 
+// How many bytes a layer takes: four under tag 1, six under tag 7 (02, wish 5).
+pub fn layer_size(tag: u32) -> usize
+    ensures { λ r. ⌜ r ≡ layerSize tag ⌝ }
+{
+    if tag == 7 { 6 } else { 4 }
+}
+
+// Whether layers may have this tag.
+fn is_layers_tag(tag: u32) -> bool
+    ensures { λ r. ⌜ r ≡ (eqb tag layersTag || eqb tag viaLayersTag) ⌝ }
+{
+    if tag == 1 {
+        return true;
+    }
+    tag == 7
+}
+
+// Whether a layers field may have this tag and payload length: 1 to 16 layers, each of the size that its tag says.
+fn layers_allowed(tag: u32, size: usize) -> bool
+    ensures { λ r. ⌜ r ≡ dueLayers tag size ⌝ }
+{
+    let each = layer_size(tag);
+    if !is_layers_tag(tag) {
+        return false;
+    }
+    if size < each {
+        return false;
+    }
+    if each * rules::MAX_LAYERS < size {
+        return false;
+    }
+    size % each == 0
+}
+
 // Whether the field that is due may have this tag and payload length.
 fn allowed(due: Due, layers: usize, tag: u32, size: usize) -> bool
     requires { ⌜ layers ≤ maxLayers ⌝ }
     ensures { λ r. ⌜ r ≡ dueOf due layers tag size ⌝ }
 {
     match due {
-        Due::Layers => {
-            if tag != 1 {
-                return false;
-            }
-            if size < 4 {
-                return false;
-            }
-            if 64 < size {
-                return false;
-            }
-            size % 4 == 0
-        }
+        Due::Layers => layers_allowed(tag, size),
         Due::Driver => {
             if tag != 2 {
                 return false;

@@ -54,6 +54,7 @@ pub record Staging (n : Net) (below first : List ℕ) (w j : ℕ) : Type 0 where
   pub below-long : length below ≡ maxNodes + 1
   pub each-in : (i : ℕ) → i ≤ j → getD below i 0 < maxStages
   pub first-in : (i : ℕ) → i ≤ j → getD below i 0 < length first
+  pub columns-in : (i : ℕ) → i ≤ j → on first (getD below i 0) + w ≤ layerCount n
   pub stage-is : getD below (at n j .parent) 0 ≡ stageOf n j
   pub layer-is : {l : ℕ} → l ≡ getD first (getD below (at n j .parent) 0) 0 → l ≡ on first (stageOf n j)
   pub layer-in : {l : ℕ} → l ≡ getD first (getD below (at n j .parent) 0) 0 → l + w ≤ layerCount n
@@ -70,6 +71,7 @@ staging {n} A {stage} {below} {first} {w} {j} S C a b =
       below-long = S .below-long;
       each-in = λ i k. omega (arith, low i k, A .few-stages);
       first-in = λ i k. omega (arith, low i k, C .long);
+      columns-in = λ i k. C .inside (getD below i 0) (low i k);
       stage-is = e;
       layer-is = λ q. q ∙ ap (on first) e;
       layer-in = λ q. omega (arith, C .inside (getD below (at n j .parent) 0) h);

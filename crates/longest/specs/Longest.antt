@@ -1,6 +1,6 @@
--- Reading needs only the first bytes of its input: the first fault lies there, and what is accepted ends there. A layers field ends by byte 67, a
--- driver field by byte 86, and a node's field takes 71 bytes, 12 more for a buffer or a sink. Of the 255 nodes that are taken at most 63 are buffers
--- and at most 128 are sinks, because a parent is no sink and has at most two children. So the nodes end by byte 20,483, and one field more by 20,566.
+-- Reading needs only the first bytes of its input: the first fault lies there, and what is accepted ends there. A layers field ends by byte 99, a
+-- driver field by byte 118, and a node's field takes 71 bytes, 12 more for a buffer or a sink. Of the 255 nodes that are taken at most 63 are buffers
+-- and at most 128 are sinks, because a parent is no sink and has at most two children. So the nodes end by byte 20,515, and one field more by 20,598.
 use mathlib.Core.Path.{_≡_, refl, ap, _∙_}
 use mathlib.Core.Bool.{Bool, true, false, not, _||_}
 use mathlib.Core.Logic.{_⊎_, inl, inr}
@@ -14,23 +14,24 @@ use lib.ListN.{length, take, length-take}
 use lib.Seq.{getD-take}
 use borrow.Author.Tests.{eqb-true, ne-eqb, leb-true, ltb-true, not-true}
 use Rattle.laws.specs.Basic.{if_then_else_, bit, from, sum, all, keep, within}
-use Rattle.laws.specs.Booleans.{and-left, and-right, and-three, within-true, leb-same, same-or, bit-le}
+use Rattle.laws.specs.Booleans.{and-left, and-right, and-three, leb-same, same-or, bit-le}
 use Rattle.laws.specs.Lists.{length-from, length-more, others-are, keep-more, map-same, from-mem, count-by-number}
 use Rattle.laws.specs.Sums.{sum-add, sum-one, sum-from}
 use Rattle.rules.specs.declared.Kind.{Kind}
 use Rattle.rules.specs.declared.Kind.the-variants.{Steiner, Buffer, Sink}
-use Rattle.rules.specs.Tree.{Node, isSink, isBuffer, noNode, node}
-use Rattle.rules.specs.Bytes.{layersTag, driverTag, steinerTag, bufferTag, sinkTag, maxLayers, maxNodes, maxStages, maxChildren, kindSize}
+use Rattle.rules.specs.Tree.{Layer, Node, isSink, isBuffer, noNode, node}
+use Rattle.rules.specs.Bytes.{driverTag, steinerTag, bufferTag, sinkTag, maxLayers, maxNodes, maxStages, maxChildren, layerSize, kindSize}
 use Rattle.rules.specs.Bytes.{Field, fieldAt, next, dueLayers, dueDriver, dueNode, number}
 use Rattle.rules.specs.Bytes.{maxLength, layerAt, layersAt, isLayer, driverAt, isDriver, kindAt, costsAt, nodeAt}
 use Rattle.rules.specs.Reading.{Answer, accept, refuse, _>>=_, _>>_, _unless_}
 use Rattle.rules.specs.Reading.{field, children, buffers, hasRoom, isParent, nodeField, nodesFrom, isWhole, readTo, read}
 use Rattle.facts.specs.Fields.{field-there}
+use Rattle.facts.specs.Layers.{LayersHeld, layers-held, layers-short, layer-inside, layer-number}
 use Rattle.facts.specs.Nodes.{afterField, nodesTurn, field-taken}
 
 -- How many bytes of the input decide the answer.
 abbrev pub front : ℕ
-front = 20566
+front = 20598
 
 -- Two answers are the same if their first steps are, and what follows an accepted first step is.
 then-both : {A B : Type 0} {x y : Answer A} (f g : A → Answer B) → x ≡ y → ((a : A) → y ≡ accept a → f a ≡ g a) → (x >>= f) ≡ (y >>= g)
@@ -95,12 +96,19 @@ module _ (M : ℕ) (bs : List ℕ) where
         1 unless leb (next g) (length cs)
         accept g
 
+  -- A layer is the same in both, of either edition.
+  layer-same : (tag i : ℕ) → i + 6 ≤ M → layerAt (take M bs) tag i ≡ layerAt bs tag i
+  unfolding layerAt
+  layer-same tag i h = cc (number-same i 2 (omega arith), number-same (i + 2) 2 (omega arith), number-same (i + 4) 2 (omega arith))
+
   -- The layers are the same in both.
-  layers-same : (f : Field) → next f ≤ M → layersAt (take M bs) f ≡ layersAt bs f
-  unfolding next layersAt layerAt
-  layers-same f h = map-same _ _ (from 0 (f .size / 4)) (λ k m.
-      let low = from-mem 0 (f .size / 4) k m in
-      cc (number-same (f .start + 4 * k) 2 (omega arith), number-same (f .start + 4 * k + 2) 2 (omega arith)))
+  layers-same : (f : Field) → LayersHeld (layerSize (f .tag)) (f .size) → next f + 2 ≤ M → layersAt (take M bs) f ≡ layersAt bs f
+  unfolding next layersAt
+  layers-same f H h =
+      let w = layerSize (f .tag) in
+      map-same _ _ (from 0 (f .size / w)) (λ k m.
+      let in-field = layer-inside H k (omega (arith, from-mem 0 (f .size / w) k m)) in
+      layer-same (f .tag) (f .start + w * k) (omega (arith, in-field, H .units)))
 
   -- So is the driver.
   driver-same : (i : ℕ) → i + 16 ≤ M → driverAt (take M bs) i ≡ driverAt bs i
@@ -148,8 +156,8 @@ record Placed (ns : List Node) (i : ℕ) : Type 0 where
   few-children : (p : ℕ) → p ≤ length ns → children ns p ≤ 2 * free ns p
   -- Parents have lower numbers, so numbers that are yet to come have no child.
   no-children : (p : ℕ) → length ns < p → children ns p ≡ 0
-  -- Layers and driver take at most 86 bytes, each node at most 71, and a sink or buffer 12 more.
-  ends : i ≤ 86 + 71 * length ns + 12 * (sinks ns + buffers ns)
+  -- Layers and driver take at most 118 bytes, each node at most 71, and a sink or buffer 12 more.
+  ends : i ≤ 118 + 71 * length ns + 12 * (sinks ns + buffers ns)
 
 -- A sum is at most twice another if each of its members is.
 sum-twice : (f g : ℕ → ℕ) (i m : ℕ) → ((p : ℕ) → i ≤ p → p < i + m → f p ≤ 2 * g p) → sum (map f (from i m)) ≤ 2 * sum (map g (from i m))
@@ -176,15 +184,15 @@ sinks-or-free ns =
     let b = pass-or-fail test (from 1 n) in
     omega (arith, a, b, length-from 1 n)
 
--- So at most 128 nodes are sinks, and the nodes that are placed end by byte 20,483.
-placed-low : {ns : List Node} {i : ℕ} → Placed ns i → i ≤ 20483
+-- So at most 128 nodes are sinks, and the nodes that are placed end by byte 20,515.
+placed-low : {ns : List Node} {i : ℕ} → Placed ns i → i ≤ 20515
 placed-low {ns} {i} P =
     let a = sum-twice (children ns) (free ns) 0 (suc (length ns)) (λ p b c. P .few-children p (omega arith)) in
     let few : sinks ns ≤ 128 = omega (arith, a, P .counted, sinks-or-free ns, P .few-nodes) in
     omega (arith, few, P .ends, P .few-nodes, P .few-buffers)
 
 -- Before the first node, after the driver.
-none-placed : (i : ℕ) → i ≤ 86 → Placed [] i
+none-placed : (i : ℕ) → i ≤ 118 → Placed [] i
 unfolding children buffers
 none-placed i h = record {
   few-nodes = omega arith;
@@ -283,7 +291,7 @@ module _ {ns : List Node} {i : ℕ} (P : Placed ns i) (m : Node) (room : hasRoom
 
   -- The new node ends at j, which is as far as its kind allows.
   more-ends : (j : ℕ) → j ≤ i + 71 + 12 * (bit (isSink (m .kind)) + bit (isBuffer (m .kind)))
-      → j ≤ 86 + 71 * length (ns ++ (m ∷ [])) + 12 * (sinks (ns ++ (m ∷ [])) + buffers (ns ++ (m ∷ [])))
+      → j ≤ 118 + 71 * length (ns ++ (m ∷ [])) + 12 * (sinks (ns ++ (m ∷ [])) + buffers (ns ++ (m ∷ [])))
   unfolding buffers
   more-ends j h = omega (arith, P .ends, length-more ns m, keep-more (λ n. isSink (n .kind)) ns m, keep-more (λ n. isBuffer (n .kind)) ns m)
 
@@ -351,25 +359,24 @@ module _ (M : ℕ) (enough : front ≤ M) (bs : List ℕ) where
 
   -- So reading only the first M bytes gives the answer that reading all of them gives.
   pub read-front : read (take M bs) ≡ read bs
-  unfolding read readTo next dueLayers dueDriver
+  unfolding read readTo next dueDriver
   read-front =
-      then-both _ _ (field-same M bs dueLayers 64 0 layers-few (omega arith)) (λ f a.
+      then-both _ _ (field-same M bs dueLayers 96 0 layers-short (omega arith)) (λ f a.
       let (f-start, f-due) = field-is dueLayers bs 0 a in
-      let f-few = layers-few (f .tag) (f .size) f-due in
-      let layers = layers-same M bs f (omega arith) in
+      let f-few = layers-short (f .tag) (f .size) f-due in
+      let held = layers-held (f .tag) (f .size) f-due in
+      let layers = layers-same M bs f held (omega arith) in
       unless-both 3 (all (map isLayer (layersAt (take M bs) f))) (all (map isLayer (layersAt bs f))) _ _ (ap (λ ls. all (map isLayer ls)) layers) (λ r1.
       then-both _ _ (field-same M bs dueDriver 16 (next f) driver-few (omega arith)) (λ g b.
       let (g-start, g-due) = field-is dueDriver bs (next f) b in
       let g-few = driver-few (g .tag) (g .size) g-due in
       let driver = driver-same M bs (g .start) (omega arith) in
       unless-both 3 (isDriver (driverAt (take M bs) (g .start))) (isDriver (driverAt bs (g .start))) _ _ (ap isDriver driver) (λ r2.
-      then-both _ _ (nodes-same (maxNodes + 1) (f .size / 4) (omega arith) (none-placed (next g) (omega arith))) (λ ns c.
+      then-both _ _
+      (ap (λ (ls : List Layer). nodesFrom maxLength (maxNodes + 1) (take M bs) (length ls) [] (next g)) layers ∙
+      nodes-same (maxNodes + 1) (length (layersAt bs f)) (rw (layer-number bs f) (held .few)) (none-placed (next g) (omega arith))) (λ ns c.
       unless-both 6 (isWhole ns) (isWhole ns) _ _ refl (λ r3. cc (layers, driver)))))))
     where
-      -- A layers field has at most 64 bytes.
-      layers-few : (tag size : ℕ) → dueLayers tag size ≡ true → size ≤ 64
-      layers-few tag size e = within-true 4 (4 * maxLayers) size (and-three (eqb tag layersTag) _ _ e .1) .1
-
       -- A driver field has 16 bytes.
       driver-few : (tag size : ℕ) → dueDriver tag size ≡ true → size ≤ 16
       driver-few tag size e = let q = eqb-true size 16 (and-right (eqb tag driverTag) _ e) in omega arith

@@ -12,7 +12,7 @@ use Rattle.laws.specs.Lists.{from-more, length-more}
 use Rattle.rules.specs.Tree as tree
 use Rattle.rules.specs.Bytes.{Field, maxLayers, bufferTag, nodeAt, driverAt}
 use Rattle.words.specs.declared.Node.{Node}
-use Rattle.words.specs.Words.{nodeRow, countAt, rowFor, Rows, cell, nodeIn, nodesIn, driverIn, layersIn, netIn}
+use Rattle.words.specs.Words.{rowsAt, nodeRow, countAt, rowFor, Rows, cell, nodeIn, nodesIn, driverIn, layersIn, netIn}
 use Rattle.words.specs.Puts.{DriverPut}
 use Rattle.words.proofs.Cells.{nodes-same}
 use Rattle.words.proofs.Layers.{layers-same}
@@ -56,16 +56,16 @@ module _ {bs : List ℕ} {L i : ℕ} {ns : List tree.Node} {keep r : Bool} {old 
   head k a b = others k b ∙ S .lower k a
 
   pub tag-put : cell (set words countAt count) 0 0 ≡ bufferTag
-  tag-put = head 32 (omega arith) (λ e. omega arith) ∙ D .tagged
+  tag-put = head rowsAt (omega arith) (λ e. omega arith) ∙ D .tagged
 
   driver-is : driverIn (set words countAt count) ≡ driverAt bs i
   unfolding driverIn
   driver-is =
       rw (
-        head 36 (omega arith) (λ e. omega arith),
-        head 37 (omega arith) (λ e. omega arith),
-        head 38 (omega arith) (λ e. omega arith),
-        head 39 (omega arith) (λ e. omega arith),
+        head (rowsAt + 4) (omega arith) (λ e. omega arith),
+        head (rowsAt + 5) (omega arith) (λ e. omega arith),
+        head (rowsAt + 6) (omega arith) (λ e. omega arith),
+        head (rowsAt + 7) (omega arith) (λ e. omega arith),
       )
       (D .is)
 
@@ -78,7 +78,7 @@ module _ {bs : List ℕ} {L i : ℕ} {ns : List tree.Node} {keep r : Bool} {old 
       counted = getD-set-same words countAt count 0 (omega arith)
 
       layered : cell (set words countAt count) 0 2 ≡ L
-      layered = head 34 (omega arith) (λ e. omega arith) ∙ D .layered
+      layered = head (rowsAt + 2) (omega arith) (λ e. omega arith) ∙ D .layered
 
       layers-are : layersIn (set words countAt count) L ≡ layersIn old L
       layers-are = layers-same old (set words countAt count) L thin (λ m h. head m (omega arith) (λ e. omega arith) ∙ D .lower m h)

@@ -2,19 +2,19 @@
 use mathlib.Core.Path.{_≡_, refl, ap, sym, _∙_, subst}
 use mathlib.Core.Bool.{Bool, true, false}
 use mathlib.Core.List.{List, []}
-use Prim.Native.Nat.{ℕ, _+_, _*_, _/_, _%_, _<_, _≤_}
+use Prim.Native.Nat.{ℕ, _+_, _/_, _<_, _≤_}
 use native.Mathlib.Omega.{arith}
 use lib.Dec.{leb, eqb}
 use lib.ListN.{length, getD, set, length-map}
 use borrow.Author.Tests.{le-leb, lt-leb, eqb-true}
-use Rattle.laws.specs.Basic.{within}
-use Rattle.laws.specs.Booleans.{and-three, within-true, and-both}
+use Rattle.laws.specs.Booleans.{and-both}
 use Rattle.laws.specs.Lists.{scan, scan-start, length-from}
 use Rattle.rules.specs.Tree as tree
 use Rattle.rules.specs.Tree.{stages, layerCount}
-use Rattle.rules.specs.Bytes.{Field, maxLength, maxNodes, maxLayers, layersAt, driverAt, isDriver, dueLayers, dueDriver, next}
+use Rattle.rules.specs.Bytes.{Field, maxLength, maxNodes, maxLayers, layerSize, layersAt, driverAt, isDriver, dueLayers, dueDriver, next}
 use Rattle.rules.specs.Reading.{Answer, accept, refuse, _>>=_, _>>_, _unless_, field, buffers, nodesFrom, isWhole, readTo, read}
 use Rattle.facts.specs.Answers.{not-refused, accept-injective, then-same, turned-accepted, turned-refused, test-turned}
+use Rattle.facts.specs.Layers.{layer-number}
 use Rattle.facts.specs.Accepted.{stages-are}
 use Rattle.words.specs.Words.{nodeRow, countAt, layersIn}
 use Rattle.words.specs.Puts.{layersFrom, LayersPut, DriverPut}
@@ -124,11 +124,7 @@ tree-gave {bs} {L} {i} t =
       stored = t .stored ns a;
     }
 
--- the lengths that the first two fields can have
-pub layers-size : (t n : ℕ) → dueLayers t n ≡ true → n ≤ 4 * maxLayers
-unfolding dueLayers
-layers-size t n e = within-true 4 (4 * maxLayers) n (and-three (eqb t 1) (within 4 (4 * maxLayers) n) (eqb (n % 4) 0) e .1) .1
-
+-- the length that the driver's field has
 pub driver-size : (t n : ℕ) → dueDriver t n ≡ true → n ≡ 16
 unfolding dueDriver
 driver-size t n e = eqb-true n 16 (and-both (eqb t 2) (eqb n 16) e .1)
@@ -193,21 +189,29 @@ module _ (bs : List ℕ) (keep : Bool) (words : List ℕ) where
   unfolding read readTo
   read-1 q e = net-none q (simp e)
 
-  module _ {f : Field} (e : field dueLayers bs 0 ≡ accept f) {mid : List ℕ} {b : Bool} (P : LayersPut bs (f .size / 4) (f .start) mid b) where
-    pub read-2 : b ≡ false → NetRead bs keep (net.Refused 3) words
-    unfolding read readTo layersAt layersFrom
-    read-2 h = net-none refl (simp (e, sym (P .answer) ∙ h))
+  module _ {f : Field} (e : field dueLayers bs 0 ≡ accept f) {L : ℕ} (el : L ≡ f .size / layerSize (f .tag)) {mid : List ℕ} {b : Bool}
+      (P : LayersPut bs (f .tag) L (f .start) mid b) where
+    layers-are : layersAt bs f ≡ layersFrom bs (f .tag) (f .start) L
+    unfolding layersAt layersFrom
+    layers-are = rw el refl
 
-    read-rest : b ≡ true → read bs ≡ restFrom bs (f .size / 4) (layersIn mid (f .size / 4)) (f .start + f .size)
-    unfolding read readTo layersAt layersFrom next restFrom treeFrom
+    number-is : length (layersFrom bs (f .tag) (f .start) L) ≡ L
+    number-is = sym (ap length layers-are) ∙ layer-number bs f ∙ sym el
+
+    pub read-2 : b ≡ false → NetRead bs keep (net.Refused 3) words
+    unfolding read readTo
+    read-2 h = net-none refl (simp (e, layers-are, sym (P .answer) ∙ h))
+
+    read-rest : b ≡ true → read bs ≡ restFrom bs L (layersIn mid L) (f .start + f .size)
+    unfolding read readTo next restFrom treeFrom
     read-rest h =
-        rw (P .are h) (simp (e, sym (P .answer) ∙ h)
+        rw (P .are h) (simp (e, layers-are, number-is, sym (P .answer) ∙ h)
         (then-same (field dueDriver bs (next f)) _ _ (λ g.
         ap (_>>_ (3 unless isDriver (driverAt bs (g .start))))
-        (test-turned 6 (nodesFrom maxLength (maxNodes + 1) bs (f .size / 4) [] (next g)) isWhole
-        (λ ns. record { layers = layersFrom bs (f .start) (f .size / 4); driver = driverAt bs (g .start); nodes = ns })))))
+        (test-turned 6 (nodesFrom maxLength (maxNodes + 1) bs L [] (next g)) isWhole
+        (λ ns. record { layers = layersFrom bs (f .tag) (f .start) L; driver = driverAt bs (g .start); nodes = ns })))))
 
-    pub read-3 : {r : Net} → b ≡ true → RestRead bs (f .size / 4) (f .start + f .size) keep r mid words → NetRead bs keep r words
+    pub read-3 : {r : Net} → b ≡ true → RestRead bs L (f .start + f .size) keep r mid words → NetRead bs keep r words
     unfolding counts
     read-3 h R = record {
       answer = R .answer ∙ sym (ap (λ (y : Answer tree.Net). y >>= λ n. accept (countsOf n)) (read-rest h));

@@ -3,6 +3,7 @@ use fields::Due;
 use fields::Found;
 use fields::field_at;
 use fields::found_refusal;
+use fields::layer_size;
 use nodes::Step;
 use nodes::read_node;
 use nodes::step_refusal;
@@ -198,16 +199,13 @@ pub fn read(net: &[u8], keep: bool, words: &mut [u32]) -> Net
     ensures { λ r. ⌜ NetRead (now (net .entry)) keep r (now (words .exit)) ⌝ }
 {
     let found = field_at(net, 0, Due::Layers, 0);
-    let Found::Field {
-        tag: _,
-        start,
-        size,
-    } = found
-    else {
+    let Found::Field { tag, start, size } = found else {
         return Net::Refused(found_refusal(found));
     };
-    let layers = size / 4;
-    if !put_layers(net, start, layers, words) {
+    let each = layer_size(tag);
+    // The first layer and those after it: in this form the compiler knows that there is one.
+    let layers = 1 + (size - each) / each;
+    if !put_layers(net, tag, start, layers, words) {
         return Net::Refused(3);
     }
     rest_from(net, start + size, layers, keep, words)

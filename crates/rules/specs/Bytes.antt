@@ -1,5 +1,5 @@
 -- 01, 'Net bytes': numbers and times in bytes, fields, the ranges, and the records that the payloads hold.
-use mathlib.Core.Bool.{Bool, true, false, _&&_}
+use mathlib.Core.Bool.{Bool, true, false, _&&_, _||_}
 use mathlib.Core.List.{List, map}
 use Prim.Native.Nat.{ℕ, zero, suc, _+_, _*_, _/_, _-_, _^_, _%_}
 use lib.Dec.{leb, ltb, eqb}
@@ -13,6 +13,10 @@ use Rattle.rules.specs.Tree.{Layer, Driver, Node}
 -- Unit values are 1 to 1,000.
 abbrev pub maxUnit : ℕ
 maxUnit = 1000
+
+-- Via resistance 0 to 1,000 (02, wish 5).
+abbrev pub maxViaRes : ℕ
+maxViaRes = 1000
 
 -- Layers 1 to 16.
 abbrev pub maxLayers : ℕ
@@ -54,9 +58,13 @@ maxStages = 64
 abbrev pub maxChildren : ℕ
 maxChildren = 2
 
--- The tags of the five fields.
+-- The tags of the fields: the layers without vias (01),
 abbrev pub layersTag : ℕ
 layersTag = 1
+
+-- and the layers of the second edition, with vias, which take the place of tag 1 (02, wish 5).
+abbrev pub viaLayersTag : ℕ
+viaLayersTag = 7
 
 -- The driver's field.
 abbrev pub driverTag : ℕ
@@ -97,9 +105,14 @@ fieldAt bs i = record { tag = number bs i 1; start = i + 3; size = number bs (i 
 unfoldable pub next : Field → ℕ
 next f = f .start + f .size
 
--- A layers field has 4 to 64 bytes, a multiple of 4: two bytes each for unit resistance and unit capacitance, for 1 to 16 layers.
+-- How many bytes a layer takes: two each for unit resistance and unit capacitance, and under tag 7 two more for via resistance (02, wish 5).
+abbrev pub layerSize : ℕ → ℕ
+layerSize tag = if eqb tag viaLayersTag then 6 else 4
+
+-- A layers field has tag 1 and 4 to 64 bytes, a multiple of 4, or tag 7 and 6 to 96 bytes, a multiple of 6: 1 to 16 layers (01, Net bytes; 02, wish 5).
 unfoldable pub dueLayers : ℕ → ℕ → Bool
-dueLayers tag size = eqb tag layersTag && within 4 (4 * maxLayers) size && eqb (size % 4) 0
+dueLayers tag size =
+    (eqb tag layersTag || eqb tag viaLayersTag) && within (layerSize tag) (layerSize tag * maxLayers) size && eqb (size % layerSize tag) 0
 
 -- A driver field has 4 + 4 + 8 bytes.
 unfoldable pub dueDriver : ℕ → ℕ → Bool
@@ -113,13 +126,13 @@ kindSize tag = if eqb tag steinerTag then 0 else 12
 unfoldable pub dueNode : ℕ → ℕ → ℕ → Bool
 dueNode L tag size = within steinerTag sinkTag tag && eqb size (4 + 4 * L + kindSize tag)
 
--- The layer at i: unit resistance, unit capacitance.
-unfoldable pub layerAt : List ℕ → ℕ → Layer
-layerAt bs i = record { unitRes = number bs i 2; unitCap = number bs (i + 2) 2 }
+-- The layer at i of a layers field with this tag: unit resistance, unit capacitance, via resistance, which is 0 under tag 1 (02, wish 5).
+unfoldable pub layerAt : List ℕ → ℕ → ℕ → Layer
+layerAt bs tag i = record { unitRes = number bs i 2; unitCap = number bs (i + 2) 2; viaRes = if eqb tag viaLayersTag then number bs (i + 4) 2 else 0 }
 
 -- The layers of a layers field.
 unfoldable pub layersAt : List ℕ → Field → List Layer
-layersAt bs f = map (λ k. layerAt bs (f .start + 4 * k)) (from 0 (f .size / 4))
+layersAt bs f = map (λ k. layerAt bs (f .tag) (f .start + layerSize (f .tag) * k)) (from 0 (f .size / layerSize (f .tag)))
 
 -- The driver at i: gate resistance, intrinsic delay, arrival time.
 unfoldable pub driverAt : List ℕ → ℕ → Driver
@@ -152,7 +165,7 @@ isTime = withinZ (negsuc (maxTime - 1)) (pos maxTime)
 
 -- A layer whose numbers are in their ranges.
 unfoldable pub isLayer : Layer → Bool
-isLayer l = within 1 maxUnit (l .unitRes) && within 1 maxUnit (l .unitCap)
+isLayer l = within 1 maxUnit (l .unitRes) && within 1 maxUnit (l .unitCap) && leb (l .viaRes) maxViaRes
 
 -- A driver whose numbers are in their ranges.
 unfoldable pub isDriver : Driver → Bool

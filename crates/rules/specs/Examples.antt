@@ -1,8 +1,8 @@
--- 01, 'Nets to try', the rows marked †, lengths (02, wish 3) and blocks to try (02, wish 2): lists of inputs and results, and one proof that settles them
--- against the rules.
+-- 01, 'Nets to try', the rows marked †, lengths (02, wish 3), vias (02, wish 5) and blocks to try (02, wish 2): lists of inputs and results, and one proof
+-- that settles them against the rules.
 use mathlib.Core.Bool.{Bool, true, false, _&&_}
 use mathlib.Core.List.{List, [], _∷_, _++_, map}
-use Prim.Native.Nat.{ℕ, zero, suc, _/_, _^_, _%_}
+use Prim.Native.Nat.{ℕ, zero, suc, _+_, _*_, _/_, _^_, _%_}
 use lib.Dec.{T, eqb}
 use lib.ListN.{length, drop, replicate}
 use lib.IntN.{ℤ, pos, negsuc}
@@ -14,6 +14,7 @@ use Rattle.rules.specs.Bytes
 use Rattle.rules.specs.Timing
 use Rattle.rules.specs.Grain
 use Rattle.rules.specs.Reading
+use Rattle.rules.specs.Reading.{check}
 use Rattle.rules.specs.Judging
 use Rattle.rules.specs.Judging.{judge}
 use Rattle.rules.specs.Planning
@@ -33,6 +34,10 @@ bytes (suc w) x = (x / 256 ^ w % 256) ∷ bytes w x
 abbrev pub twoLayers : List ℕ
 twoLayers = bytes 1 1 ++ (bytes 2 8 ++ (bytes 2 4 ++ (bytes 2 1 ++ (bytes 2 1 ++ bytes 2 1))))
 
+-- The same with via resistance 0 on layer 0 and v on layer 1 (02, wish 5).
+abbrev pub twoViaLayers : ℕ → List ℕ
+twoViaLayers v = bytes 1 7 ++ (bytes 2 12 ++ (bytes 2 4 ++ (bytes 2 1 ++ (bytes 2 0 ++ (bytes 2 1 ++ (bytes 2 1 ++ bytes 2 v))))))
+
 -- 'driver resistance 1, intrinsic 0, arrival 0'.
 abbrev pub plainDriver : List ℕ
 plainDriver = bytes 1 2 ++ (bytes 2 16 ++ (bytes 4 1 ++ (bytes 4 0 ++ bytes 8 0)))
@@ -46,17 +51,40 @@ abbrev pub bufferField : ℕ → ℕ → ℕ → ℕ → ℕ → ℕ → ℕ →
 bufferField p len a b c r d =
     bytes 1 4 ++ (bytes 2 24 ++ (bytes 2 p ++ (bytes 2 len ++ (bytes 4 a ++ (bytes 4 b ++ (bytes 4 c ++ (bytes 4 r ++ bytes 4 d)))))))
 
+-- Net A on these layers, with another length and required time t.
+abbrev pub netAOn : List ℕ → ℕ → ℕ → List ℕ
+netAOn layers len t = layers ++ (plainDriver ++ sinkField 0 len 10 20 5 t)
+
 -- Net A with another length and required time t.
 abbrev pub netALong : ℕ → ℕ → List ℕ
-netALong len t = twoLayers ++ (plainDriver ++ sinkField 0 len 10 20 5 t)
+netALong len t = netAOn twoLayers len t
 
 -- Net A with required time t.
 abbrev pub netA : ℕ → List ℕ
 netA t = netALong 10 t
 
+-- Net A with via resistance v on layer 1, and required time t.
+abbrev pub netAVia : ℕ → ℕ → List ℕ
+netAVia v t = netAOn (twoViaLayers v) 10 t
+
+-- Net B on these layers.
+abbrev pub netBOn : List ℕ → List ℕ
+netBOn layers = layers ++ (plainDriver ++ (bufferField 0 10 10 20 5 1 3 ++ sinkField 1 10 12 25 5 1063))
+
 -- Net B.
 abbrev pub netB : List ℕ
-netB = twoLayers ++ (plainDriver ++ (bufferField 0 10 10 20 5 1 3 ++ sinkField 1 10 12 25 5 1063))
+netB = netBOn twoLayers
+
+-- The number 1 so many times, in w bytes each.
+abbrev pub ones : ℕ → ℕ → List ℕ
+ones w zero = []
+ones w (suc m) = bytes w 1 ++ ones w m
+
+-- A net whose layers field has this tag and m numbers, each 1 and of two bytes, and whose sink has costs for L layers.
+abbrev pub layersOf : ℕ → ℕ → ℕ → List ℕ
+layersOf tag m L =
+    bytes 1 tag ++ (bytes 2 (2 * m) ++ (ones 2 m ++ (plainDriver ++
+    (bytes 1 5 ++ (bytes 2 (16 + 4 * L) ++ (bytes 2 0 ++ (bytes 2 10 ++ (ones 4 L ++ (bytes 4 5 ++ bytes 8 830)))))))))
 
 -- The field of a net in a block.
 abbrev pub inBlock : List ℕ → List ℕ
@@ -79,6 +107,8 @@ same eq (x ∷ xs) (y ∷ ys) = eq x y && same eq xs ys
 
 -- A row: an input and the results that 01 or 02 gives for it.
 pub data Row : Type 0 where
+  -- checked: net; refusal, nodes, stages, layers
+  Checks : List ℕ → ℕ → ℕ → ℕ → ℕ → Row
   -- judged: net, plan; cost, slack
   Judges : List ℕ → List ℕ → ℕ → ℤ → Row
   -- planned: net, p, q, table entries; plan, cost, slack, k
@@ -107,6 +137,8 @@ answers a r c s k buffer table =
 
 -- A row holds.
 abbrev pub holds : Row → Bool
+holds (Checks bs r i s l) =
+    eqb (check bs .refusal) r && (eqb (check bs .nodes) i && (eqb (check bs .stages) s && eqb (check bs .layers) l))
 holds (Judges bs x c s) = eqb (judge bs x .refusal) 0 && (eqb (judge bs x .cost) c && sameZ (judge bs x .slack) s)
 holds (Plans bs p q m x c s k) = answers (planOn bs p q m) 0 c s k (x ++ drop (length x) usedBuffer) (replicate m (pos 0))
 holds (Refuses bs p q m r) = answers (planOn bs p q m) r 0 (pos 0) 0 usedBuffer (Basic.if_then_else_ (eqb r 12) (replicate m (pos 0)) (usedTable m))
@@ -141,6 +173,34 @@ lengthRows =
     Refuses (netALong 65535 64168010) 0 1 200 3 ∷
     []
 
+-- Vias (02, wish 5). Net A on layer 1 takes 230 ticks and, with via resistance 2, 2 × 2 × 15 at the root and 2 × 2 × 5 at the sink: 310. In net B the
+-- buffer's pin pays by the layer of the stage above it. Via resistance 1,000 is read, 1,001 gives 3, before the driver's field is looked at. Tag 7 has a
+-- multiple of 6 bytes from 6 to 96, tag 1 a multiple of 4: 12 bytes are two layers or three.
+abbrev pub viaRows : List Row
+viaRows =
+    Judges (netAVia 2 830) (1 ∷ []) 20 (pos 520) ∷
+    Judges (netAVia 2 830) (0 ∷ []) 10 (pos 0) ∷
+    Plans (netAVia 2 310) 0 1 200 (1 ∷ []) 20 (pos 0) 0 ∷
+    Refuses (netAVia 2 309) 0 1 200 11 ∷
+    Judges (netBOn (twoViaLayers 2)) (1 ∷ 0 ∷ []) 32 (negsuc 79) ∷
+    Judges (netBOn (twoViaLayers 2)) (0 ∷ 1 ∷ []) 35 (negsuc 79) ∷
+    Judges (netBOn (twoViaLayers 2)) (1 ∷ 1 ∷ []) 45 (pos 440) ∷
+    Judges (netAVia 1000 40230) (1 ∷ []) 20 (pos 0) ∷
+    Checks (netAVia 1001 40230) 3 0 0 0 ∷
+    Checks (twoViaLayers 1001) 3 0 0 0 ∷
+    Checks (twoViaLayers 1000) 1 0 0 0 ∷
+    Checks (layersOf 7 2 1) 2 0 0 0 ∷
+    Checks (layersOf 7 3 1) 0 2 1 1 ∷
+    Checks (layersOf 7 4 1) 2 0 0 0 ∷
+    Checks (layersOf 7 5 1) 2 0 0 0 ∷
+    Checks (layersOf 7 6 2) 0 2 1 2 ∷
+    Checks (layersOf 7 45 15) 0 2 1 15 ∷
+    Checks (layersOf 7 48 16) 0 2 1 16 ∷
+    Checks (layersOf 7 51 17) 2 0 0 0 ∷
+    Checks (layersOf 1 3 1) 2 0 0 0 ∷
+    Checks (layersOf 1 6 3) 0 2 1 3 ∷
+    []
+
 -- Blocks: the one of 02, the empty file, a net of no bytes; and 13 for another tag, for a head and for a payload cut short after a net that is whole.
 abbrev pub reportRows : List Row
 reportRows =
@@ -153,6 +213,6 @@ reportRows =
     []
 
 -- All rows hold, by computing the definitions on them.
-pub settled : T (all (map holds (rows ++ (lengthRows ++ reportRows))))
-unfolding Basic.largest Tree.node Tree.edges Tree.childrenOf Tree.roots Tree.stages Tree.root Tree.layerCount Tree.drives Tree.rootFrom Tree.pathFrom Tree.stageOf Tree.between Tree.edgesOf Tree.terminals Tree.areLayers Tree.isPlan Tree.plans Bytes.number Bytes.signed Bytes.fieldAt Bytes.next Bytes.dueLayers Bytes.dueDriver Bytes.dueNode Bytes.layerAt Bytes.layersAt Bytes.driverAt Bytes.kindAt Bytes.costsAt Bytes.nodeAt Bytes.isTime Bytes.isLayer Bytes.isDriver Bytes.isKind Bytes.isCosts Bytes.isNode Timing.layer Timing.edgeRes Timing.edgeCap Timing.loadFrom Timing.load Timing.edgeDelay Timing.gateRes Timing.gateIntrinsic Timing.gateDelay Timing.wireDelay Timing.requiredFrom Timing.required Timing.slack Timing.meets Timing.edgeCost Timing.cost Timing.stageCost Timing.stageCosts Grain.roundedCost Grain.meetingPlans Grain.leastRounded Grain.qualifies Grain.grainExponent Grain.chosen Grain.columns Grain.columnsNeeded Reading.field Reading.children Reading.buffers Reading.hasRoom Reading.isParent Reading.nodeField Reading.nodesFrom Reading.isWhole Reading.readTo Reading.read Reading.check Judging.judged Judging.judge Planning.planned Planning.cleared Planning.plan Text.decimalFrom Text.decimal Program.refusedLine Block.dueNet Block.netField Block.payload Block.netsFrom Block.block Block.lengthOn Block.overPlanned Block.refusedNets Block.totals Block.noTotals Block.report Block.countLine Block.metLine Block.metFrom Block.totalsText Block.answerText Block.reportText
+pub settled : T (all (map holds (rows ++ (lengthRows ++ (viaRows ++ reportRows)))))
+unfolding Basic.largest Tree.node Tree.edges Tree.childrenOf Tree.roots Tree.stages Tree.root Tree.layerCount Tree.drives Tree.rootFrom Tree.pathFrom Tree.stageOf Tree.between Tree.edgesOf Tree.terminals Tree.areLayers Tree.isPlan Tree.plans Bytes.number Bytes.signed Bytes.fieldAt Bytes.next Bytes.dueLayers Bytes.dueDriver Bytes.dueNode Bytes.layerAt Bytes.layersAt Bytes.driverAt Bytes.kindAt Bytes.costsAt Bytes.nodeAt Bytes.isTime Bytes.isLayer Bytes.isDriver Bytes.isKind Bytes.isCosts Bytes.isNode Timing.layer Timing.edgeRes Timing.edgeCap Timing.loadFrom Timing.load Timing.edgeDelay Timing.gateRes Timing.gateIntrinsic Timing.rootVia Timing.gateDelay Timing.terminalVia Timing.wireDelay Timing.requiredFrom Timing.required Timing.slack Timing.meets Timing.edgeCost Timing.cost Timing.stageCost Timing.stageCosts Grain.roundedCost Grain.meetingPlans Grain.leastRounded Grain.qualifies Grain.grainExponent Grain.chosen Grain.columns Grain.columnsNeeded Reading.field Reading.children Reading.buffers Reading.hasRoom Reading.isParent Reading.nodeField Reading.nodesFrom Reading.isWhole Reading.readTo Reading.read Reading.check Judging.judged Judging.judge Planning.planned Planning.cleared Planning.plan Text.decimalFrom Text.decimal Program.refusedLine Block.dueNet Block.netField Block.payload Block.netsFrom Block.block Block.lengthOn Block.overPlanned Block.refusedNets Block.totals Block.noTotals Block.report Block.countLine Block.metLine Block.metFrom Block.totalsText Block.answerText Block.reportText
 settled = tt

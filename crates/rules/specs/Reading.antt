@@ -1,7 +1,7 @@
 -- 01, 'Reading': fields are read from the front and the first fault met decides.
 use mathlib.Core.Bool.{Bool, true, false, not, _&&_, _||_}
 use mathlib.Core.List.{List, [], _∷_, _++_, map}
-use Prim.Native.Nat.{ℕ, zero, suc, _+_, _-_, _/_}
+use Prim.Native.Nat.{ℕ, zero, suc, _+_, _-_}
 use lib.Dec.{leb, ltb, eqb}
 use lib.ListN.{length}
 use Rattle.laws.specs.Basic.{from, all, keep}
@@ -85,7 +85,7 @@ readTo most bs = do
   3 unless all (map Bytes.isLayer (Bytes.layersAt bs f))
   g ← field Bytes.dueDriver bs (Bytes.next f)
   3 unless Bytes.isDriver (Bytes.driverAt bs (g .start))
-  ns ← nodesFrom most (Bytes.maxNodes + 1) bs (f .size / 4) [] (Bytes.next g)
+  ns ← nodesFrom most (Bytes.maxNodes + 1) bs (length (Bytes.layersAt bs f)) [] (Bytes.next g)
   6 unless isWhole ns
   accept (record { layers = Bytes.layersAt bs f; driver = Bytes.driverAt bs (g .start); nodes = ns })
 

@@ -1,6 +1,7 @@
--- 01, 'Timing rule': load, edge and gate delay, required time, slack, meeting timing; cost.
+-- 01, 'Timing rule': load, edge and gate delay, required time, slack, meeting timing; cost. With the vias of 02, wish 5.
 -- Source 001, section 2 (Elmore delay; required and arrival time), intrinsic gate delay as in source 002, section 2.1. A tick is half the product of
--- the two units, so nothing is halved.
+-- the two units, so nothing is halved. A via is a resistance that the current to all load behind it passes, as Elmore delay counts every resistance (source
+-- 001, section 2); delays of vias between pin and layer: source 003, sections 7.3 and 7.4. It has no capacitance, so no load rests on it.
 use mathlib.Core.Bool.{Bool, true, false}
 use mathlib.Core.List.{List, map}
 use Prim.Native.Nat.{ℕ, zero, suc, _+_, _*_}
@@ -8,12 +9,13 @@ use lib.ListN.{length, getD}
 use lib.IntN.{ℤ, pos, _-ℤ_}
 use lib.Signed.{leZ}
 use Rattle.laws.specs.Basic.{from, sum, leastOf}
+use Rattle.rules.specs.declared.Kind.{Kind}
 use Rattle.rules.specs.declared.Kind.the-variants.{Steiner, Buffer, Sink}
 use Rattle.rules.specs.Tree.{Layer, Net, at, edges, childrenOf, stages, root, drives, stageOf, between, edgesOf, terminals, on}
 
 -- Layer l of a net.
 unfoldable pub layer : Net → ℕ → Layer
-layer n l = getD (n .layers) l (record { unitRes = 0; unitCap = 0 })
+layer n l = getD (n .layers) l (record { unitRes = 0; unitCap = 0; viaRes = 0 })
 
 -- R of edge j on layer l: length × unit resistance (01, Timing rule; source 002, section 2.1: R_e = R l_e).
 unfoldable pub edgeRes : Net → ℕ → ℕ → ℕ
@@ -48,20 +50,34 @@ gateRes n i = elim (at n i .kind) [ Steiner ↦ n .driver .gateRes | Buffer c r 
 unfoldable pub gateIntrinsic : Net → ℕ → ℕ
 gateIntrinsic n i = elim (at n i .kind) [ Steiner ↦ n .driver .intrinsic | Buffer c r d ↦ d | Sink c t ↦ n .driver .intrinsic ]
 
--- Gate delay of stage t on layer l: 2 × gate resistance × load at the root, plus intrinsic delay (01, Timing rule; source 001, section 2, equation 1).
-unfoldable pub gateDelay : Net → ℕ → ℕ → ℕ
-gateDelay n l t = 2 * gateRes n (root n t) * load n l (root n t) + gateIntrinsic n (root n t)
+-- What stage t on layer l pays for the via at its root: 2 × via resistance × root load (02, wish 5).
+unfoldable pub rootVia : Net → ℕ → ℕ → ℕ
+rootVia n l t = 2 * layer n l .viaRes * load n l (root n t)
 
--- The edge delays between terminal j and the root of its stage, on layer l (01, Timing rule; source 001, section 2: root-terminal path delay).
+-- Gate delay of stage t on layer l: 2 × gate resistance × load at the root, plus intrinsic delay (01, Timing rule; source 001, section 2, equation 1), and the
+-- via at the root (02, wish 5).
+unfoldable pub gateDelay : Net → ℕ → ℕ → ℕ
+gateDelay n l t = 2 * gateRes n (root n t) * load n l (root n t) + gateIntrinsic n (root n t) + rootVia n l t
+
+-- The input capacitance of a terminal; a Steiner point has no pin and so none.
+abbrev pub inputCap : Kind → ℕ
+inputCap k = elim k [ Steiner ↦ 0 | Buffer c r d ↦ c | Sink c t ↦ c ]
+
+-- What a stage on layer l pays for the via at terminal j, on the way to that terminal: 2 × via resistance × input capacitance (02, wish 5).
+unfoldable pub terminalVia : Net → ℕ → ℕ → ℕ
+terminalVia n l j = 2 * layer n l .viaRes * inputCap (at n j .kind)
+
+-- The edge delays between terminal j and the root of its stage, on layer l (01, Timing rule; source 001, section 2: root-terminal path delay), and the via at
+-- the terminal (02, wish 5).
 unfoldable pub wireDelay : Net → ℕ → ℕ → ℕ
-wireDelay n l j = sum (map (edgeDelay n l) (between n j))
+wireDelay n l j = sum (map (edgeDelay n l) (between n j)) + terminalVia n l j
 
 -- The required time of terminal j: a sink's is given, a buffer's is that of the stage it drives, which f gives.
 abbrev pub terminalTime : Net → (ℕ → ℤ) → ℕ → ℤ
 terminalTime n f j = elim (at n j .kind) [ Steiner ↦ pos 0 | Buffer c r d ↦ f (drives n j) | Sink c t ↦ t ]
 
 -- The required time at the root of stage t under plan x: the least, over its terminals, of the terminal's required time minus gate delay minus the
--- edge delays between. k bounds the stages on the way; s - t is enough, for a stage drives stages of higher number.
+-- edge delays between, each with its via. k bounds the stages on the way; s - t is enough, for a stage drives stages of higher number.
 unfoldable pub requiredFrom : ℕ → Net → List ℕ → ℕ → ℤ
 requiredFrom zero n x t = pos 0
 requiredFrom (suc k) n x t =

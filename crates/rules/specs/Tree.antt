@@ -10,10 +10,12 @@ use Rattle.laws.specs.Basic.{from, keep, all}
 use Rattle.rules.specs.declared.Kind.{Kind}
 use Rattle.rules.specs.declared.Kind.the-variants.{Steiner, Buffer, Sink}
 
--- A layer is a horizontal and vertical pair: its unit resistance and unit capacitance (01, Net bytes; source 001, section 2).
+-- A layer is a horizontal and vertical pair: its unit resistance and unit capacitance (01, Net bytes; source 001, section 2), and the resistance of the via
+-- between a pin and the layer (02, wish 5).
 pub record Layer : Type 0 where
   pub unitRes : ℕ
   pub unitCap : ℕ
+  pub viaRes : ℕ
 
 -- The driver: gate resistance, intrinsic delay, arrival time (01, Net bytes; intrinsic delay: source 002, section 2.1).
 pub record Driver : Type 0 where

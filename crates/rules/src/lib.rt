@@ -1,8 +1,10 @@
 // The values and limits of document 01 that code and definitions share. The rules themselves stand in specs/.
 
-// The ranges and limits of 01, Net bytes (the length's is of 02, wish 3), as code compares with them; specs/Bytes.antt has the same numbers for the
-// definitions.
+// The ranges and limits of 01, Net bytes (the length's is of 02, wish 3, that of via resistance of 02, wish 5), as code compares with them; specs/Bytes.antt
+// has the same numbers for the definitions.
 pub const MAX_UNIT: u64 = 1_000;
+
+pub const MAX_VIA_RES: u64 = 1_000;
 
 pub const MAX_LAYERS: usize = 16;
 

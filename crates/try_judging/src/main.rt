@@ -1,4 +1,5 @@
-// Judges plans of nets A and B of document 01 (Judging, Nets to try) and of nets near them, and prints what judging answers, a line for each.
+// Judges plans of nets A and B of document 01 (Judging, Nets to try), without and with vias (02, wish 5), and of nets near them, and prints what judging
+// answers, a line for each.
 ghost use Prim.Native.Nat.{_<_};
 ghost use mathlib.Core.Path.{_≡_};
 ghost use lib.ListN.{length};
@@ -17,6 +18,25 @@ fn net_b() -> [u8; 84]
     ensures { λ r. ⌜ 84 ≡ length r ⌝ }
 {
     *b"\x01\x00\x08\x00\x04\x00\x01\x00\x01\x00\x01\
+    \x02\x00\x10\x00\x00\x00\x01\x00\x00\x00\x00\x00\x00\x00\x00\x00\x00\x00\x00\
+    \x04\x00\x18\x00\x00\x00\x0a\x00\x00\x00\x0a\x00\x00\x00\x14\x00\x00\x00\x05\x00\x00\x00\x01\x00\x00\x00\x03\
+    \x05\x00\x18\x00\x01\x00\x0a\x00\x00\x00\x0c\x00\x00\x00\x19\x00\x00\x00\x05\x00\x00\x00\x00\x00\x00\x04\x27"
+}
+
+// Net A with via resistance 0 on layer 0 and 2 on layer 1 (02, wish 5).
+fn via_net_a() -> [u8; 61]
+    ensures { λ r. ⌜ 61 ≡ length r ⌝ }
+{
+    *b"\x07\x00\x0c\x00\x04\x00\x01\x00\x00\x00\x01\x00\x01\x00\x02\
+    \x02\x00\x10\x00\x00\x00\x01\x00\x00\x00\x00\x00\x00\x00\x00\x00\x00\x00\x00\
+    \x05\x00\x18\x00\x00\x00\x0a\x00\x00\x00\x0a\x00\x00\x00\x14\x00\x00\x00\x05\x00\x00\x00\x00\x00\x00\x03\x3e"
+}
+
+// Net B with the same via resistances.
+fn via_net_b() -> [u8; 88]
+    ensures { λ r. ⌜ 88 ≡ length r ⌝ }
+{
+    *b"\x07\x00\x0c\x00\x04\x00\x01\x00\x00\x00\x01\x00\x01\x00\x02\
     \x02\x00\x10\x00\x00\x00\x01\x00\x00\x00\x00\x00\x00\x00\x00\x00\x00\x00\x00\
     \x04\x00\x18\x00\x00\x00\x0a\x00\x00\x00\x0a\x00\x00\x00\x14\x00\x00\x00\x05\x00\x00\x00\x01\x00\x00\x00\x03\
     \x05\x00\x18\x00\x01\x00\x0a\x00\x00\x00\x0c\x00\x00\x00\x19\x00\x00\x00\x05\x00\x00\x00\x00\x00\x00\x04\x27"
@@ -80,6 +100,19 @@ fn unreadable(name: &[u8], place: usize, x: u8, plan: &[u8])
     try_plan(name, &net, plan);
 }
 
+// Net A with another via resistance on layer 1: the two bytes of it.
+fn via_resistance(name: &[u8], high: u8, low: u8, plan: &[u8]) {
+    let mut net = via_net_a();
+    net[13] = high;
+    net[14] = low;
+    try_plan(name, &net, plan);
+}
+
+fn try_via_net_b(name: &[u8], plan: &[u8]) {
+    let net = via_net_b();
+    try_plan(name, &net, plan);
+}
+
 // Puts one byte, if the net has its place.
 fn put(net: &mut [u8], at: usize, x: u8) {
     if at < net.len() {
@@ -131,6 +164,19 @@ fn try_answers() {
     try_net_b(b"B, plan 1 1", b"\x01\x01");
 }
 
+// Net A takes 310 ticks on layer 1 with via resistance 2, and 40,230 with 1,000. The buffer's pin of net B pays by the layer of the stage above it.
+fn try_vias() {
+    via_resistance(b"A with vias, plan 0", 0, 2, b"\x00");
+    via_resistance(b"A with vias, plan 1", 0, 2, b"\x01");
+    via_resistance(b"A with vias of 0, plan 1", 0, 0, b"\x01");
+    via_resistance(b"A with vias of 1000, plan 1", 0x03, 0xe8, b"\x01");
+    via_resistance(b"A with vias of 1001, plan 1", 0x03, 0xe9, b"\x01");
+    try_via_net_b(b"B with vias, plan 0 0", b"\x00\x00");
+    try_via_net_b(b"B with vias, plan 0 1", b"\x00\x01");
+    try_via_net_b(b"B with vias, plan 1 0", b"\x01\x00");
+    try_via_net_b(b"B with vias, plan 1 1", b"\x01\x01");
+}
+
 fn try_plan_lengths() {
     try_net_a(b"A, empty plan", b"");
     try_net_a(b"A, plan too long", b"\x00\x00");
@@ -178,6 +224,7 @@ fn try_unreadable() {
 
 fn main() {
     try_answers();
+    try_vias();
     try_plan_lengths();
     try_layer_numbers();
     try_most_stages();

@@ -1,5 +1,5 @@
-// Reads nets at and just beyond each limit of document 01 (Net bytes, Reading, Nets to try; lengths by 02, wish 3) and prints what checking answers, a line
-// for each.
+// Reads nets at and just beyond each limit of document 01 (Net bytes, Reading, Nets to try; lengths by 02, wish 3, vias by wish 5) and prints what checking
+// answers, a line for each.
 // Nets are made in a local buffer from numbers, most significant byte first; each place below is that of a number in net B.
 use rules::Checked;
 use std::num::wrapping_sub_u64;
@@ -39,12 +39,12 @@ fn put(net: &mut [u8], at: usize, width: u64, x: u64) -> usize {
     next
 }
 
-// Puts a number of 4 bytes `times` times, and answers the place after them.
-fn put_each(net: &mut [u8], at: usize, times: u64, x: u64) -> usize {
+// Puts a number of `width` bytes `times` times, and answers the place after them.
+fn put_each(net: &mut [u8], at: usize, times: u64, width: u64, x: u64) -> usize {
     let mut next = at;
     let mut k: u64 = 0;
     while k < times {
-        next = put(net, next, 4, x);
+        next = put(net, next, width, x);
         k += 1;
     }
     next
@@ -81,11 +81,24 @@ fn try_net(name: &[u8], net: &[u8], size: usize) {
     io::write_all(1, b"\n");
 }
 
-// The two layers and the driver of nets A and B.
-fn put_layers_and_driver(net: &mut [u8]) -> usize {
+// The two layers of nets A and B.
+fn put_layers(net: &mut [u8]) -> usize {
     let at = put(net, 0, 3, 0x01_0008);
     let at = put(net, at, 4, 0x0004_0001);
+    put(net, at, 4, 0x0001_0001)
+}
+
+// The same layers in the second edition, with these via resistances.
+fn put_via_layers(net: &mut [u8], via: u64, via2: u64) -> usize {
+    let at = put(net, 0, 3, 0x07_000c);
+    let at = put(net, at, 4, 0x0004_0001);
+    let at = put(net, at, 2, via);
     let at = put(net, at, 4, 0x0001_0001);
+    put(net, at, 2, via2)
+}
+
+// The driver of nets A and B.
+fn put_driver(net: &mut [u8], at: usize) -> usize {
     let at = put(net, at, 3, 0x02_0010);
     let at = put(net, at, 4, 1);
     let at = put(net, at, 4, 0);
@@ -120,16 +133,23 @@ fn put_buffer(net: &mut [u8], at: usize) -> usize {
 // Net A of document 01.
 fn try_net_a() {
     let mut net = [0u8; 128];
-    let at = put_layers_and_driver(&mut net);
+    let at = put_layers(&mut net);
+    let at = put_driver(&mut net, at);
     let size = put_sink(&mut net, at, 0, 10, 20, 830);
     try_net(b"net A", &net, size);
 }
 
-// Net B of document 01.
-fn put_net_b(net: &mut [u8]) -> usize {
-    let at = put_layers_and_driver(net);
+// Net B of document 01, but for its layers.
+fn put_rest_of_b(net: &mut [u8], at: usize) -> usize {
+    let at = put_driver(net, at);
     let at = put_buffer(net, at);
     put_sink(net, at, 1, 12, 25, 1063)
+}
+
+// Net B of document 01.
+fn put_net_b(net: &mut [u8]) -> usize {
+    let at = put_layers(net);
+    put_rest_of_b(net, at)
 }
 
 // The first `size` bytes of net B, and zeros after its end, with the number x of `width` bytes at `place`.
@@ -150,13 +170,21 @@ fn long(name: &[u8], size: usize) {
     try_net_b(name, 0, 0, 0, size);
 }
 
-// Layers with all unit values 1, and a driver with all numbers 0.
-fn put_start(net: &mut [u8], layers: u64) -> usize
-    requires { ⌜ layers ≤ 17 ⌝ }
+// Net B in the second edition, with these via resistances.
+fn try_vias(name: &[u8], via: u64, via2: u64) {
+    let mut net = [0u8; 128];
+    let at = put_via_layers(&mut net, via, via2);
+    let size = put_rest_of_b(&mut net, at);
+    try_net(name, &net, size);
+}
+
+// A layers field with this tag and so many numbers of 2 bytes, all 1, and a driver with all numbers 0.
+fn put_start(net: &mut [u8], tag: u64, numbers: u64) -> usize
+    requires { ⌜ numbers ≤ 51 ⌝ }
 {
-    let at = put(net, 0, 1, 1);
-    let at = put(net, at, 2, 4 * layers);
-    let at = put_each(net, at, layers, 0x0001_0001);
+    let at = put(net, 0, 1, tag);
+    let at = put(net, at, 2, 2 * numbers);
+    let at = put_each(net, at, numbers, 2, 1);
     let at = put(net, at, 3, 0x02_0010);
     put(net, at, 16, 0)
 }
@@ -177,23 +205,23 @@ fn put_node(net: &mut [u8], at: usize, tag: u64, layers: u64, parent: u64) -> us
     let at = put(net, at, 2, 4 + 4 * layers + 4 * own);
     let at = put(net, at, 2, parent);
     let at = put(net, at, 2, 0);
-    let at = put_each(net, at, layers, 1);
-    put_each(net, at, own, 0)
+    let at = put_each(net, at, layers, 4, 1);
+    put_each(net, at, own, 4, 0)
 }
 
-// A net of so many layers with one sink.
-fn try_layers(name: &[u8], layers: u64)
-    requires { ⌜ layers ≤ 17 ⌝ }
+// A net of so many layers, whose layers field has this tag and so many numbers, with one sink.
+fn try_layers(name: &[u8], tag: u64, numbers: u64, layers: u64)
+    requires { ⌜ (numbers ≤ 51) × (layers ≤ 17) ⌝ }
 {
     let mut net = [0u8; 256];
-    let at = put_start(&mut net, layers);
+    let at = put_start(&mut net, tag, numbers);
     let size = put_node(&mut net, at, 5, layers, 0);
     try_net(name, &net, size);
 }
 
 // One layer, `count` nodes with this tag, each below the one before it, and a sink below the last.
 fn put_chain(net: &mut [u8], tag: u64, count: u64) -> usize {
-    let mut at = put_start(net, 1);
+    let mut at = put_start(net, 1, 2);
     let mut parent: u64 = 0;
     while parent < count {
         at = put_node(net, at, tag, 1, parent);
@@ -213,7 +241,7 @@ fn try_chain(name: &[u8], tag: u64, count: u64, place: usize, width: u64, x: u64
 // One layer, and two or three sinks below the driver.
 fn try_sinks() {
     let mut net = [0u8; 128];
-    let at = put_start(&mut net, 1);
+    let at = put_start(&mut net, 1, 2);
     let one = put_node(&mut net, at, 5, 1, 0);
     let two = put_node(&mut net, one, 5, 1, 0);
     let three = put_node(&mut net, two, 5, 1, 0);
@@ -239,11 +267,35 @@ fn try_counts() {
 }
 
 fn try_layer_counts() {
-    try_layers(b"1 layer", 1);
-    try_layers(b"16 layers", 16);
-    try_layers(b"17 layers", 17);
-    try_layers(b"no layers", 0);
+    try_layers(b"1 layer", 1, 2, 1);
+    try_layers(b"16 layers", 1, 32, 16);
+    try_layers(b"17 layers", 1, 34, 17);
+    try_layers(b"no layers", 1, 0, 0);
     with(b"layers length 6", 1, 2, 6);
+    try_layers(b"layers length 12", 1, 6, 3);
+}
+
+// The second edition's layers have 6 bytes each, which is refused where the first edition's 4 are not, and the other way round.
+fn try_via_layer_counts() {
+    try_layers(b"tag 7, 1 layer", 7, 3, 1);
+    try_layers(b"tag 7, 15 layers", 7, 45, 15);
+    try_layers(b"tag 7, 16 layers", 7, 48, 16);
+    try_layers(b"tag 7, 17 layers", 7, 51, 17);
+    try_layers(b"tag 7, no layers", 7, 0, 0);
+    try_layers(b"tag 7, length 4", 7, 2, 1);
+    try_layers(b"tag 7, length 8", 7, 4, 2);
+    try_layers(b"tag 7, length 10", 7, 5, 2);
+    try_layers(b"tag 7, length 12", 7, 6, 2);
+    try_layers(b"tag 7, length 64", 7, 32, 16);
+}
+
+fn try_via_resistances() {
+    try_vias(b"via resistance 0", 0, 0);
+    try_vias(b"via resistance 1000", 1000, 0);
+    try_vias(b"via resistance 1001", 1001, 0);
+    try_vias(b"second via resistance 1000", 0, 1000);
+    try_vias(b"second via resistance 1001", 0, 1001);
+    try_vias(b"second via resistance 65535", 0, 65535);
 }
 
 fn try_unit_values() {
@@ -327,6 +379,8 @@ fn try_ends() {
 }
 
 fn try_heads() {
+    with(b"tag 7 with the length of tag 1", 0, 1, 7);
+    with(b"tag 7 in a node's place", 57, 1, 7);
     with(b"wrong tag", 57, 1, 6);
     try_net_b(b"wrong tag with missing payload", 57, 1, 6, NET_B - 1);
     with(b"wrong length", 58, 2, 23);
@@ -336,7 +390,9 @@ fn main() {
     try_rows();
     try_counts();
     try_layer_counts();
+    try_via_layer_counts();
     try_unit_values();
+    try_via_resistances();
     try_driver();
     try_arrival();
     try_edge();

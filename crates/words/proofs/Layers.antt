@@ -5,95 +5,135 @@ use mathlib.Core.Logic.{_⊎_, inl, inr}
 use mathlib.Core.List.{List, map}
 use Prim.Native.Nat.{ℕ, _+_, _*_, _<_, _≤_}
 use native.Mathlib.Omega.{arith}
+use native.Mathlib.Nat.{mul-le-mul}
+use lib.Dec.{leb, eqb}
 use lib.ListN.{length, getD, set, length-set}
 use lib.Seq.{getD-set-same, getD-set-other}
 use lib.IntN.{ℤ}
-use Rattle.laws.specs.Basic.{all, from, within}
+use Rattle.laws.specs.Basic.{if_then_else_, all, from, within}
 use Rattle.laws.specs.Booleans.{same-or}
 use Rattle.laws.specs.Lists.{scan, scan-start, scan-no, scan-more, scan-end, map-map, map-same, from-mem}
-use Rattle.rules.specs.Bytes.{maxLayers, maxUnit, number, signed, layerAt, isLayer, driverAt, isDriver, isKind, isTime}
+use Rattle.rules.specs.Bytes.{maxLayers, maxUnit, maxViaRes, viaLayersTag, number, signed, layerSize, layerAt, isLayer, driverAt, isDriver, isKind, isTime}
 use Rattle.rules.specs.declared.Kind.{Kind}
-use Rattle.words.specs.Words.{capsAt, rowsAt, kindOf, driverIn, layerIn, layersIn}
-use Rattle.words.specs.Puts.{Three, layersFrom, LayersPut, DriverPut}
+use Rattle.words.specs.Words.{capsAt, viasAt, rowsAt, kindOf, driverIn, layerIn, layersIn}
+use Rattle.words.specs.Puts.{Three, LayerPut, layersFrom, LayersPut, DriverPut}
 use Rattle.words.proofs.Cells.{halves}
 
+-- one layer: x, y and v are its numbers, a and b whether its units are in their range, as the code has them
+module _ (bs : List ℕ) (tag i : ℕ) {x y v : ℕ} {a b : Bool} (ex : x ≡ number bs i 2) (ey : y ≡ number bs (i + 2) 2)
+    (ev : v ≡ (if eqb tag viaLayersTag then number bs (i + 4) 2 else 0)) (ea : a ≡ within 1 maxUnit x) (eb : b ≡ within 1 maxUnit y)
+    (old : List ℕ) {l : ℕ} (h : l < maxLayers) (room : rowsAt ≤ length old) where
+  abbrev one : List ℕ
+  one = set old l x
+
+  abbrev two : List ℕ
+  two = set one (capsAt + l) y
+
+  abbrev put : List ℕ
+  put = set two (viasAt + l) v
+
+  first : getD put l 0 ≡ number bs i 2
+  first =
+      getD-set-other two (viasAt + l) l v 0 (λ e. omega arith) ∙ getD-set-other one (capsAt + l) l y 0 (λ e. omega arith) ∙
+      getD-set-same old l x 0 (omega arith) ∙ ex
+
+  second : getD put (capsAt + l) 0 ≡ number bs (i + 2) 2
+  second =
+      getD-set-other two (viasAt + l) (capsAt + l) v 0 (λ e. omega arith) ∙ getD-set-same one (capsAt + l) y 0 (omega (arith, length-set old l x)) ∙ ey
+
+  third : getD put (viasAt + l) 0 ≡ (if eqb tag viaLayersTag then number bs (i + 4) 2 else 0)
+  third = getD-set-same two (viasAt + l) v 0 (omega (arith, length-set one (capsAt + l) y, length-set old l x)) ∙ ev
+
+  other : (m : ℕ) → (m ≡ l → ⊥) → (m ≡ capsAt + l → ⊥) → (m ≡ viasAt + l → ⊥) → getD put m 0 ≡ getD old m 0
+  other m p q r = getD-set-other two (viasAt + l) m v 0 r ∙ getD-set-other one (capsAt + l) m y 0 q ∙ getD-set-other old l m x 0 p
+
+  layer-row : {r : Bool} → r ≡ a && b && leb v maxViaRes → LayerPut bs tag i old (set (set (set old l x) (capsAt + l) y) (viasAt + l) v) l r
+  unfolding isLayer layerAt layerIn
+  layer-row e = record {
+    answer = e ∙ rw (ea, eb, ex, ey, ev);
+    is = rw (first, second, third) refl;
+    others = λ m d ne.
+        rw (
+          other m ne (λ q. omega arith) (λ q. omega arith),
+          other (capsAt + m) (λ q. omega arith) (λ q. ne (omega arith)) (λ q. omega arith),
+          other (viasAt + m) (λ q. omega arith) (λ q. omega arith) (λ q. ne (omega arith)),
+        )
+        refl;
+  }
+
+  pub layer-res : a ≡ false → LayerPut bs tag i old (set (set (set old l x) (capsAt + l) y) (viasAt + l) v) l false
+  layer-res e = layer-row (simp e)
+
+  pub layer-cap : a ≡ true → b ≡ false → LayerPut bs tag i old (set (set (set old l x) (capsAt + l) y) (viasAt + l) v) l false
+  layer-cap e o = layer-row (simp (e, o))
+
+  pub layer-via : a ≡ true → b ≡ true → LayerPut bs tag i old (set (set (set old l x) (capsAt + l) y) (viasAt + l) v) l (leb v maxViaRes)
+  layer-via e o = layer-row (simp (e, o))
+
 -- the test of one layer, and of all in turn
-unfoldable pub layerTest : List ℕ → ℕ → ℕ → Bool
-layerTest bs i k = isLayer (layerAt bs (i + 4 * k))
+unfoldable pub layerTest : List ℕ → ℕ → ℕ → ℕ → Bool
+layerTest bs tag i k = isLayer (layerAt bs tag (i + layerSize tag * k))
 
-layers-scan : (bs : List ℕ) (i L : ℕ) → scan (layerTest bs i) 0 L ≡ all (map isLayer (layersFrom bs i L))
+layers-scan : (bs : List ℕ) (tag i L : ℕ) → scan (layerTest bs tag i) 0 L ≡ all (map isLayer (layersFrom bs tag i L))
 unfolding layerTest layersFrom
-layers-scan bs i L = scan-start _ L ∙ sym (ap all (map-map isLayer (λ k. layerAt bs (i + 4 * k)) (from 0 L)))
-
-layer-is : (bs : List ℕ) (i k : ℕ) {x y : ℕ} {a b : Bool} → x ≡ number bs (i + 4 * k) 2 → y ≡ number bs (i + 4 * k + 2) 2 → a ≡ within 1 maxUnit x
-    → b ≡ within 1 maxUnit y
-    → layerTest bs i k ≡ a && b
-unfolding layerTest isLayer layerAt
-layer-is bs i k ex ey ea eb = rw (ea, eb, ex, ey)
+layers-scan bs tag i L = scan-start _ L ∙ sym (ap all (map-map isLayer (λ k. layerAt bs tag (i + layerSize tag * k)) (from 0 L)))
 
 -- the layers, before layer k
-pub record LayersSoFar (bs : List ℕ) (L i : ℕ) (size : ℕ) (words : List ℕ) (k : ℕ) : Type 0 where
+pub record LayersSoFar (bs : List ℕ) (tag L i : ℕ) (size : ℕ) (words : List ℕ) (k : ℕ) : Type 0 where
   pub inside : k ≤ L
-  pub test : scan (layerTest bs i) k L ≡ all (map isLayer (layersFrom bs i L))
-  pub each : (l : ℕ) → l < k → layerIn words l ≡ layerAt bs (i + 4 * l)
+  pub test : scan (layerTest bs tag i) k L ≡ all (map isLayer (layersFrom bs tag i L))
+  pub each : (l : ℕ) → l < k → layerIn words l ≡ layerAt bs tag (i + layerSize tag * l)
   pub long : length words ≡ size
 
-pub layering-start : (bs : List ℕ) (L i : ℕ) (old : List ℕ) → LayersSoFar bs L i (length old) old 0
-layering-start bs L i old = record { inside = omega arith; test = layers-scan bs i L; each = λ l h. absurd (omega arith); long = refl }
+pub layering-start : (bs : List ℕ) (tag L i : ℕ) (old : List ℕ) → LayersSoFar bs tag L i (length old) old 0
+layering-start bs tag L i old = record { inside = omega arith; test = layers-scan bs tag i L; each = λ l h. absurd (omega arith); long = refl }
 
-module _ {bs : List ℕ} {L i size : ℕ} {words : List ℕ} {k : ℕ} (U : LayersSoFar bs L i size words k) where
-  pub layering-end : L ≤ k → LayersPut bs L i words true
+module _ {bs : List ℕ} {tag L i size : ℕ} {words : List ℕ} {k : ℕ} (U : LayersSoFar bs tag L i size words k) where
+  pub layering-end : L ≤ k → LayersPut bs tag L i words true
   unfolding layersIn layersFrom
   layering-end h = record {
     answer = sym (scan-end _ _ _ h) ∙ U .test;
-    are = λ e. map-same (layerIn words) (λ l. layerAt bs (i + 4 * l)) (from 0 L) (λ l m. U .each l (omega (arith, from-mem 0 L l m)));
+    are = λ e. map-same (layerIn words) (λ l. layerAt bs tag (i + layerSize tag * l)) (from 0 L) (λ l m. U .each l (omega (arith, from-mem 0 L l m)));
   }
 
-  module _ (h : k < L) {x y : ℕ} {a b : Bool} (ex : x ≡ number bs (i + 4 * k) 2) (ey : y ≡ number bs (i + 4 * k + 2) 2) (ea : a ≡ within 1 maxUnit x)
-      (eb : b ≡ within 1 maxUnit y) where
-    layering-no : (new : List ℕ) → a && b ≡ false → LayersPut bs L i new false
-    layering-no new e = record {
-      answer = sym (scan-no _ _ h (layer-is bs i k ex ey ea eb ∙ e)) ∙ U .test;
+  -- layer k as it was put, w being the size of a layer as the code has it
+  module _ (h : k < L) {w : ℕ} (ew : w ≡ layerSize tag) {new : List ℕ} {b : Bool} (P : LayerPut bs tag (i + w * k) words new k b) where
+    test-is : layerTest bs tag i k ≡ b
+    unfolding layerTest
+    test-is = rw (← ew) (sym (P .answer))
+
+    pub layering-no : b ≡ false → LayersPut bs tag L i new false
+    layering-no e = record {
+      answer = sym (scan-no _ _ h (test-is ∙ e)) ∙ U .test;
       are = λ q. let z : _≡_ {A = ℕ} 0 1 = cc in absurd (omega arith);
     }
 
-    pub layering-res : (new : List ℕ) → a ≡ false → LayersPut bs L i new false
-    layering-res new e = layering-no new (simp e)
-
-    pub layering-cap : (new : List ℕ) → a ≡ true → b ≡ false → LayersPut bs L i new false
-    layering-cap new e o = layering-no new (simp (e, o))
-
-    pub layering-more : L ≤ maxLayers → rowsAt ≤ size → a ≡ true → b ≡ true → LayersSoFar bs L i size (set (set words k x) (capsAt + k) y) (k + 1)
-    unfolding layerIn layerAt
-    layering-more thin room e o = record {
+    pub layering-more : L ≤ maxLayers → length new ≡ length words → b ≡ true → LayersSoFar bs tag L i size new (k + 1)
+    layering-more thin same e = record {
       inside = omega arith;
-      test = sym (scan-more _ _ h (layer-is bs i k ex ey ea eb ∙ simp (e, o))) ∙ U .test;
+      test = sym (scan-more _ _ h (test-is ∙ e)) ∙ U .test;
       each = λ l d. here l d (same-or k l);
-      long = length-set one (capsAt + k) y ∙ length-set words k x ∙ U .long;
+      long = same ∙ U .long;
     }
       where
-        one : List ℕ
-        one = set words k x
+        here : (l : ℕ) → l < k + 1 → (l ≡ k) ⊎ (l ≡ k → ⊥) → layerIn new l ≡ layerAt bs tag (i + layerSize tag * l)
+        here l d (inl q) = rw (q, ← ew) (P .is)
+        here l d (inr ne) = P .others l (omega arith) ne ∙ U .each l (omega arith)
 
-        first : getD (set one (capsAt + k) y) k 0 ≡ number bs (i + 4 * k) 2
-        first = getD-set-other one (capsAt + k) k y 0 (λ e. omega arith) ∙ getD-set-same words k x 0 (omega (arith, U .long)) ∙ ex
-
-        second : getD (set one (capsAt + k) y) (capsAt + k) 0 ≡ number bs (i + 4 * k + 2) 2
-        second = getD-set-same one (capsAt + k) y 0 (omega (arith, U .long, length-set words k x)) ∙ ey
-
-        other : (m : ℕ) → (m ≡ k → ⊥) → (m ≡ capsAt + k → ⊥) → getD (set one (capsAt + k) y) m 0 ≡ getD words m 0
-        other m p q = getD-set-other one (capsAt + k) m y 0 q ∙ getD-set-other words k m x 0 p
-
-        here : (l : ℕ) → l < k + 1 → (l ≡ k) ⊎ (l ≡ k → ⊥) → layerIn (set one (capsAt + k) y) l ≡ layerAt bs (i + 4 * l)
-        here l d (inl q) = rw q (rw (first, second) refl)
-        here l d (inr ne) = rw (other l ne (λ q. omega arith), other (capsAt + l) (λ q. omega arith) (λ q. ne (omega arith))) (U .each l (omega arith))
+-- layer k of the L layers from i on lies within the bytes
+pub layer-room : (tag i : ℕ) {w k L n : ℕ} → w ≡ layerSize tag → k < L → i + layerSize tag * L ≤ n → i + w * k + layerSize tag ≤ n
+layer-room tag i {w} {k} {L} e h room =
+    let same : layerSize tag ≤ layerSize tag = omega arith in
+    let next : k + 1 ≤ L = omega arith in
+    let p = mul-le-mul same next in
+    rw e (omega arith)
 
 -- layers that are as they were
 pub layers-same : (old new : List ℕ) (L : ℕ) → L ≤ maxLayers → ((k : ℕ) → k < rowsAt → getD new k 0 ≡ getD old k 0) → layersIn new L ≡ layersIn old L
 unfolding layersIn layerIn
 layers-same old new L thin s =
     map-same (layerIn new) (layerIn old) (from 0 L)
-    (λ l m. rw (s l (omega (arith, from-mem 0 L l m)), s (capsAt + l) (omega (arith, from-mem 0 L l m))))
+    (λ l m. rw (s l (omega (arith, from-mem 0 L l m)), s (capsAt + l) (omega (arith, from-mem 0 L l m)), s (viasAt + l) (omega (arith, from-mem 0 L l m))))
 
 -- the driver
 driver-is : (bs : List ℕ) (i : ℕ) {x y c d : ℕ} {g : Kind} {z : ℤ} {a b : Bool} → x ≡ number bs i 4 → y ≡ number bs (i + 4) 4 → c ≡ number bs (i + 8) 4
@@ -110,11 +150,11 @@ module _ (bs : List ℕ) (i : ℕ) {old w1 w2 w3 : List ℕ} {L x y c d : ℕ} {
   unfolding driverIn driverAt
   driver-row e = record {
     answer = e ∙ driver-is bs i ex ey ec ed eg ez ea refl;
-    tagged = C .lower 32 (omega arith) ∙ B .lower 32 (omega arith) ∙ A .first;
-    layered = C .lower 34 (omega arith) ∙ B .lower 34 (omega arith) ∙ A .third;
+    tagged = C .lower rowsAt (omega arith) ∙ B .lower rowsAt (omega arith) ∙ A .first;
+    layered = C .lower (rowsAt + 2) (omega arith) ∙ B .lower (rowsAt + 2) (omega arith) ∙ A .third;
     is = rw (
-      C .lower 36 (omega arith) ∙ B .second ∙ ex,
-      C .lower 37 (omega arith) ∙ B .third ∙ ey,
+      C .lower (rowsAt + 4) (omega arith) ∙ B .second ∙ ex,
+      C .lower (rowsAt + 5) (omega arith) ∙ B .third ∙ ey,
       C .first,
       C .second,
       halves bs (i + 8) (i + 12) ec ed (omega arith),

@@ -10,7 +10,7 @@ use Rattle.rules.specs.Tree.{Layer, layerCount, at, node, noNode}
 use Rattle.rules.specs.Bytes.{maxLayers, maxNodes, bufferTag, signed}
 use Rattle.rules.specs.Timing.{layer, edgeCost}
 use Rattle.facts.specs.Accepted.{Accepted}
-use Rattle.words.specs.Words.{capsAt, nodeRow, costsFrom, wordCount, cell, netIn, nodesIn, nodeIn, costsIn, recordIn, layerIn, layersIn, driverIn}
+use Rattle.words.specs.Words.{capsAt, viasAt, nodeRow, costsFrom, wordCount, cell, netIn, nodesIn, nodeIn, costsIn, recordIn, layerIn, layersIn, driverIn}
 use Rattle.words.specs.declared.Node.{Node}
 
 -- all of a node but its costs
@@ -82,6 +82,7 @@ pub record LayerRead (w : List ℕ) (l : ℕ) : Type 0 where
   pub long : length w ≡ wordCount
   pub res-is : getD w l 0 ≡ layer (netIn w) l .unitRes
   pub cap-is : getD w (capsAt + l) 0 ≡ layer (netIn w) l .unitCap
+  pub via-is : getD w (viasAt + l) 0 ≡ layer (netIn w) l .viaRes
 
 -- layer l of a net that is held
 pub layer-read : {w : List ℕ} {nodes layers l : ℕ} → Held w nodes layers → l < layers → LayerRead w l
@@ -94,4 +95,5 @@ layer-read {w} {l = l} H h =
       long = H .long;
       res-is = sym (ap (λ (x : Layer). x .unitRes) q);
       cap-is = sym (ap (λ (x : Layer). x .unitCap) q);
+      via-is = sym (ap (λ (x : Layer). x .viaRes) q);
     }

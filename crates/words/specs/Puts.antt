@@ -6,9 +6,9 @@ use Prim.Native.Nat.{ℕ, _+_, _*_, _<_}
 use lib.ListN.{getD}
 use Rattle.laws.specs.Basic.{all, from}
 use Rattle.rules.specs.Tree.{Layer}
-use Rattle.rules.specs.Bytes.{bufferTag, number, kindAt, costsAt, isCosts, layerAt, isLayer, driverAt, isDriver}
+use Rattle.rules.specs.Bytes.{maxLayers, bufferTag, number, layerSize, kindAt, costsAt, isCosts, layerAt, isLayer, driverAt, isDriver}
 use Rattle.words.specs.declared.Node.{Node}
-use Rattle.words.specs.Words.{rowsAt, nodeRow, costsFrom, cell, recordIn, costsIn, layersIn, driverIn}
+use Rattle.words.specs.Words.{rowsAt, nodeRow, costsFrom, cell, recordIn, costsIn, layerIn, layersIn, driverIn}
 
 -- three numbers from place i on, all others as they were
 pub record Three (old new : List ℕ) (i a b c : ℕ) : Type 0 where
@@ -39,14 +39,20 @@ pub record NodePut (bs : List ℕ) (L tag i : ℕ) (old new : List ℕ) (j : ℕ
   pub costs-are : r ≡ true → costsIn new L j ≡ costsAt bs L (i + 4)
   pub lower : (k : ℕ) → k < nodeRow j → getD new k 0 ≡ getD old k 0
 
--- the L layers from i on
-unfoldable pub layersFrom : List ℕ → ℕ → ℕ → List Layer
-layersFrom bs i L = map (λ k. layerAt bs (i + 4 * k)) (from 0 L)
+-- the layer that stands at i in a field of this tag as layer l, the other layers as they were, and whether its numbers are in their ranges
+pub record LayerPut (bs : List ℕ) (tag i : ℕ) (old new : List ℕ) (l : ℕ) (r : Bool) : Type 0 where
+  pub answer : r ≡ isLayer (layerAt bs tag i)
+  pub is : layerIn new l ≡ layerAt bs tag i
+  pub others : (m : ℕ) → m < maxLayers → (m ≡ l → ⊥) → layerIn new m ≡ layerIn old m
+
+-- the L layers from i on, in a field of this tag
+unfoldable pub layersFrom : List ℕ → ℕ → ℕ → ℕ → List Layer
+layersFrom bs tag i L = map (λ k. layerAt bs tag (i + layerSize tag * k)) (from 0 L)
 
 -- they as far as they are in their ranges, and whether all are
-pub record LayersPut (bs : List ℕ) (L i : ℕ) (new : List ℕ) (r : Bool) : Type 0 where
-  pub answer : r ≡ all (map isLayer (layersFrom bs i L))
-  pub are : r ≡ true → layersIn new L ≡ layersFrom bs i L
+pub record LayersPut (bs : List ℕ) (tag L i : ℕ) (new : List ℕ) (r : Bool) : Type 0 where
+  pub answer : r ≡ all (map isLayer (layersFrom bs tag i L))
+  pub are : r ≡ true → layersIn new L ≡ layersFrom bs tag i L
 
 -- the driver that stands at i and the count of layers in row 0, the layers as they were
 pub record DriverPut (bs : List ℕ) (L i : ℕ) (old new : List ℕ) (r : Bool) : Type 0 where

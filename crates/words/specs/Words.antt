@@ -1,7 +1,7 @@
 -- A net in one array of numbers of at most 32 bits, as reading leaves it and everything above takes it. First the layers: number l is the unit resistance
--- of layer l, number 16 + l its unit capacitance. Then rows of 22 numbers. Row j is node j: its tag, its parent, the length of the edge to it, its own three
--- words, and the edge's cost on each layer. Row 0 is the driver's: the tag of a buffer, the count of nodes after it, the count of layers, 0, gate resistance,
--- intrinsic delay, and the two halves of its arrival time.
+-- of layer l, number 16 + l its unit capacitance, number 32 + l its via resistance. Then rows of 22 numbers. Row j is node j: its tag, its parent, the length
+-- of the edge to it, its own three words, and the edge's cost on each layer. Row 0 is the driver's: the tag of a buffer, the count of nodes after it, the count
+-- of layers, 0, gate resistance, intrinsic delay, and the two halves of its arrival time.
 use mathlib.Core.Path.{_≡_}
 use mathlib.Core.Bool.{Bool, true}
 use mathlib.Core.List.{List, map}
@@ -19,9 +19,13 @@ use Rattle.words.specs.declared.Node.{Node}
 abbrev pub capsAt : ℕ
 capsAt = maxLayers
 
+-- where the via resistances begin
+abbrev pub viasAt : ℕ
+viasAt = capsAt + maxLayers
+
 -- where the rows begin
 abbrev pub rowsAt : ℕ
-rowsAt = capsAt + maxLayers
+rowsAt = viasAt + maxLayers
 
 -- where the count of nodes after the driver stands: in row 0, after its tag
 abbrev pub countAt : ℕ
@@ -93,7 +97,7 @@ driverIn w = record { gateRes = cell w 0 4; intrinsic = cell w 0 5; arrival = si
 
 -- layer l
 unfoldable pub layerIn : List ℕ → ℕ → tree.Layer
-layerIn w l = record { unitRes = getD w l 0; unitCap = getD w (capsAt + l) 0 }
+layerIn w l = record { unitRes = getD w l 0; unitCap = getD w (capsAt + l) 0; viaRes = getD w (viasAt + l) 0 }
 
 -- the first L layers
 unfoldable pub layersIn : List ℕ → ℕ → List tree.Layer

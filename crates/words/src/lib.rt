@@ -1,6 +1,7 @@
 // A net in one array of 32-bit words (its layout: specs/Words.antt): how the parts of the bytes are put into it, and how its numbers are looked up. No other
 // crate names a place in the array.
 use fields::kind_in_range;
+use fields::layer_size;
 use fields::number;
 use fields::time_in_range;
 use fields::time_of;
@@ -8,22 +9,30 @@ use fields::within;
 use rules::Kind;
 ghost use mathlib.Core.Path.{_≡_};
 ghost use Prim.Native.Nat.{ℕ, _+_, _*_, _≤_, _<_};
+ghost use lib.Dec.{eqb};
 ghost use lib.ListN.{length, set};
-ghost use Rattle.rules.specs.Tree.{at};
-ghost use Rattle.rules.specs.Bytes.{maxLayers, maxNodes, kindSize};
+ghost use Rattle.laws.specs.Basic.{if_then_else_};
+ghost use Rattle.rules.specs.Tree.{layerCount, at};
+ghost use Rattle.rules.specs.Bytes.{maxLayers, maxNodes, viaLayersTag, number, layerSize, kindSize};
 ghost use Rattle.rules.specs.Timing.{layer, edgeCost};
 ghost use Rattle.words.specs.Words.{rowsAt, countAt, nodeRow, kindOf, recordIn, netIn};
 ghost use Rattle.words.specs.Held.{Held, recordOf};
-ghost use Rattle.words.specs.Puts.{Three, RecordPut, CostsPut, NodePut, LayersPut, DriverPut};
+ghost use Rattle.words.specs.Puts.{Three, RecordPut, CostsPut, NodePut, LayerPut, LayersPut, DriverPut};
 
 // Where the unit capacitances of the layers begin.
 const CAPS_AT: usize = rules::MAX_LAYERS;
 
+// Where the via resistances of the layers begin.
+const VIAS_AT: usize = CAPS_AT + rules::MAX_LAYERS;
+
 // Where the rows begin.
-const ROWS_AT: usize = CAPS_AT + rules::MAX_LAYERS;
+const ROWS_AT: usize = VIAS_AT + rules::MAX_LAYERS;
 
 // Where the count of nodes after the driver stands: in row 0, after its tag.
 const COUNT_AT: usize = ROWS_AT + 1;
+
+// Where the count of layers stands: after it.
+const LAYERS_AT: usize = COUNT_AT + 1;
 
 // Where the costs begin in a row.
 const COSTS_AT: usize = 6;
@@ -147,21 +156,46 @@ pub fn put_node(
     put_costs(net, start + 4, layers, j, words)
 }
 
-// The units of the layers from `at` on, and whether they are in their range; the first that is not ends the work.
-pub fn put_layers(net: &[u8], at: usize, layers: usize, words: &mut [u32]) -> bool
-    requires { ⌜ (layers ≤ maxLayers) × (at + 4 * layers ≤ length (now net)) × (rowsAt ≤ length (now words)) ⌝ }
-    ensures { λ r. ⌜ LayersPut (now (net .entry)) layers at (now (words .exit)) r ⌝ }
+// The via resistance at `at` in a layers field of this tag: two bytes under tag 7; tag 1 has none, and it is 0.
+fn via_at(net: &[u8], tag: u32, at: usize) -> u32
+    requires { ⌜ at + layerSize tag ≤ length (now net) + 4 ⌝ }
+    ensures { λ r. ⌜ r ≡ (if eqb tag viaLayersTag then number (now (net .entry)) at 2 else 0) ⌝ }
 {
+    if tag == 7 {
+        return number(net, at, 2);
+    }
+    0
+}
+
+// The layer that stands at `at` in a layers field of this tag, as layer l, and whether its numbers are in their ranges.
+fn put_layer(net: &[u8], tag: u32, at: usize, l: usize, words: &mut [u32]) -> bool
+    requires { ⌜ (l < maxLayers) × (at + layerSize tag ≤ length (now net)) × (rowsAt ≤ length (now words)) ⌝ }
+    ensures { λ r. ⌜ LayerPut (now (net .entry)) tag at (now (words .entry)) (now (words .exit)) l r ⌝ }
+{
+    let unit_res = number(net, at, 2);
+    let unit_cap = number(net, at + 2, 2);
+    let via_res = via_at(net, tag, at + 4);
+    words[l] = unit_res;
+    words[CAPS_AT + l] = unit_cap;
+    words[VIAS_AT + l] = via_res;
+    if !within(unit_res as u64, 1, rules::MAX_UNIT) {
+        return false;
+    }
+    if !within(unit_cap as u64, 1, rules::MAX_UNIT) {
+        return false;
+    }
+    via_res as u64 <= rules::MAX_VIA_RES
+}
+
+// The layers from `at` on, in a layers field of this tag, and whether their numbers are in their ranges; the first that is not ends the work.
+pub fn put_layers(net: &[u8], tag: u32, at: usize, layers: usize, words: &mut [u32]) -> bool
+    requires { ⌜ (layers ≤ maxLayers) × (at + layerSize tag * layers ≤ length (now net)) × (rowsAt ≤ length (now words)) ⌝ }
+    ensures { λ r. ⌜ LayersPut (now (net .entry)) tag layers at (now (words .exit)) r ⌝ }
+{
+    let each = layer_size(tag);
     let mut l: usize = 0;
     while l < layers {
-        let unit_res = number(net, at + 4 * l, 2);
-        let unit_cap = number(net, at + 4 * l + 2, 2);
-        words[l] = unit_res;
-        words[CAPS_AT + l] = unit_cap;
-        if !within(unit_res as u64, 1, rules::MAX_UNIT) {
-            return false;
-        }
-        if !within(unit_cap as u64, 1, rules::MAX_UNIT) {
+        if !put_layer(net, tag, at + each * l, l, words) {
             return false;
         }
         l += 1;
@@ -205,6 +239,14 @@ pub fn node_at(words: &[u32], j: usize) -> Node
     node_in(words, j)
 }
 
+// The number of layers.
+pub fn layer_count(words: &[u32]) -> usize
+    requires { ⌜ ((nodes : ℕ) × (layers : ℕ) × Held (now words) nodes layers) ⌝ }
+    ensures { λ r. ⌜ r ≡ layerCount (netIn (now (words .entry))) ⌝ }
+{
+    words[LAYERS_AT] as usize
+}
+
 // The unit resistance of layer l.
 pub fn unit_res(words: &[u32], l: usize) -> u64
     requires { ⌜ ((nodes : ℕ) × (layers : ℕ) × Held (now words) nodes layers × (l < layers)) ⌝ }
@@ -219,6 +261,14 @@ pub fn unit_cap(words: &[u32], l: usize) -> u64
     ensures { λ r. ⌜ r ≡ layer (netIn (now (words .entry))) l .unitCap ⌝ }
 {
     words[CAPS_AT + l] as u64
+}
+
+// The via resistance of layer l.
+pub fn via_res(words: &[u32], l: usize) -> u64
+    requires { ⌜ ((nodes : ℕ) × (layers : ℕ) × Held (now words) nodes layers × (l < layers)) ⌝ }
+    ensures { λ r. ⌜ r ≡ layer (netIn (now (words .entry))) l .viaRes ⌝ }
+{
+    words[VIAS_AT + l] as u64
 }
 
 // The cost of edge j on layer l.

@@ -1,7 +1,7 @@
 //! Blocks (02, wish 2): nets put together, blocks made for one purpose, and damaged ones.
 
-use super::damage::{rubbish, scrambled, unreadable};
-use super::draft::{Draft, LENGTH, MOST_LAYERS, MOST_NODES, MOST_STAGES};
+use super::damage::{around_longest, rubbish, scrambled, unreadable};
+use super::draft::{Draft, LENGTH, MOST_LAYERS, MOST_NODES, MOST_STAGES, VIA};
 use super::grown::{cheap, random_net, SMALL_FAMILIES};
 use super::named::{costing, crossed, even_line, last_layer_cheapest, line, net_a, net_b, star};
 use super::Random;
@@ -57,12 +57,31 @@ pub fn every_line() -> Vec<Named> {
         (String::from("no nets"), vec![]),
         named("every number at once", &numbers),
         named("every layer", &on_layers()),
+        named("both editions", &both_editions()),
         (String::from("65,536 bytes"), full.clone()),
         (String::from("a byte beyond 65,536"), [&full[..], &[6]].concat()),
         named("65,537 bytes", &filled(MOST_BLOCK + 1, &net_b().bytes())),
         named("200,000 bytes", &filled(200_000, &net_b().bytes())),
         (String::from("another tag"), other_tag),
         (String::from("cut short"), full[..full.len() - 1].to_vec()),
+    ]
+}
+
+/// Nets with and without vias, one after the other: met, just met, late by the vias, refused with 2 and with 3.
+fn both_editions() -> Vec<Vec<u8>> {
+    let with = |vias: [i64; 2], draft: Draft| draft.with_vias(&vias).bytes();
+    let mut wrong_tag = net_b().bytes();
+    wrong_tag[0] = 7;
+    vec![
+        net_b().bytes(),
+        with([0, 2], net_b()),
+        net_a(310).bytes(),
+        with([0, 2], net_a(310)),
+        with([0, 2], net_a(309)),
+        with([0, 0], net_a(309)),
+        wrong_tag,
+        with([VIA.1, VIA.1 + 1], net_b()),
+        net_b().bytes(),
     ]
 }
 
@@ -139,7 +158,8 @@ pub fn large() -> Vec<Named> {
     };
     let grown = [1, 29, MOST_STAGES].map(&mut of_stages);
     let cheapest = named("64 stages, the last layer the cheapest", &[last_layer_cheapest().bytes()]);
-    grown.into_iter().chain([cheapest]).collect()
+    let longest = around_longest().into_iter().map(|(name, bytes)| named(&name, &[net_b().bytes(), bytes]));
+    grown.into_iter().chain([cheapest]).chain(longest).collect()
 }
 
 /// Blocks of about 65,536 bytes and much longer ones, whole but for their length.

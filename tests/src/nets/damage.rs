@@ -1,7 +1,7 @@
 //! Damaged nets.
 
-use super::draft::{Draft, Kind, Node, Place, Role};
-use super::named::{line, net_a, net_b};
+use super::draft::{Draft, Kind, Node, Place, Role, MOST_LAYERS, VIA};
+use super::named::{line, longest, net_a, net_b};
 use super::Random;
 
 /// Bytes to be written over others.
@@ -34,9 +34,10 @@ pub fn edits(draft: &Draft) -> Vec<Edit> {
     for place in &places {
         let old = bytes[place.at..place.at + place.width].iter().fold(0i128, |n, &byte| n * 256 + byte as i128);
         let values: Vec<i128> = match place.role {
-            Role::Tag => vec![0, 1, 2, 3, 4, 5, 6, 7, 255],
+            Role::Tag => vec![0, 1, 2, 3, 4, 5, 6, 7, 8, 255],
             Role::Length => {
-                vec![0, 1, 4, 16, 60, 64, 65, 68, 65_535, old - 4, old - 1, old + 1, old + 4, old + 12, old + 256]
+                let near = [-6, -4, -2, -1, 1, 2, 4, 6, 12, 256].map(|change| old + change);
+                [&[0, 1, 4, 6, 12, 16, 60, 64, 65, 66, 68, 90, 96, 97, 102, 65_535], &near[..]].concat()
             }
             Role::Parent => parents_to_try(draft, place.field - 1),
             Role::Number { low, high } => {
@@ -77,12 +78,14 @@ pub fn changed_b(change: impl Fn(&mut Draft)) -> Vec<u8> {
 /// For each of the refusals 1 to 6 a net that has it.
 pub fn unreadable() -> Vec<(u8, Vec<u8>)> {
     let whole = net_b().bytes();
-    let mut wrong_tag = whole.clone();
-    wrong_tag[0] = 9;
+    let of_tag = |tag: u8| [&[tag], &whole[1..]].concat();
     vec![
         (1, whole[..whole.len() - 1].to_vec()),
-        (2, wrong_tag),
+        (2, of_tag(9)),
+        // 8 bytes are no layers with vias.
+        (2, of_tag(7)),
         (3, changed_b(|draft| draft.nodes[1].costs[1] = 0)),
+        (3, changed_b(|draft| draft.vias = Some(vec![0, VIA.1 + 1]))),
         (4, line(64, 0).bytes()),
         (5, changed_b(|draft| draft.nodes[1].parent = 2)),
         (6, changed_b(|draft| draft.nodes.truncate(1))),
@@ -173,6 +176,7 @@ fn tails(draft: &Draft) -> Vec<Vec<u8>> {
         vec![9, 9],
         vec![0, 0, 0],
         vec![1, 0, 4],
+        vec![7, 0, 6],
         vec![2, 0, 16],
         vec![3, 0, steiner],
         vec![4, 0, sink],
@@ -269,7 +273,22 @@ pub fn long() -> Vec<Named> {
             nets.push((format!("{name} and {tail} zeros"), [&net[..], &vec![0; tail]].concat()));
         }
     }
+    nets.extend(around_longest());
     nets
+}
+
+/// The longest net, whole, and with a 256th node that is cut by so many bytes: no first fault lies further on.
+pub fn around_longest() -> Vec<Named> {
+    let mut draft = longest();
+    let whole = draft.bytes();
+    assert_eq!(whole.len(), 20_515, "the longest net");
+    let kind = Kind::Sink { capacitance: 1, required: 1 };
+    draft.nodes.push(Node { parent: 0, length: 1, costs: vec![1; MOST_LAYERS], kind });
+    let beyond = draft.bytes();
+    let cut = |less: usize| (format!("256 nodes, cut by {less} bytes"), beyond[..beyond.len() - less].to_vec());
+    let cuts = [0, 1, 31, 32, 33].map(cut);
+    let rubbish = (String::from("256 nodes, rubbish"), [&beyond[..], &[9, 9, 9]].concat());
+    [(String::from("the longest net"), whole), rubbish].into_iter().chain(cuts).collect()
 }
 
 /// Where the layers field, the driver field and a node field are due: each tag, with the head cut or whole and no payload.
@@ -277,30 +296,36 @@ pub fn heads() -> Vec<Named> {
     let net = net_a(830).bytes();
     let (layers, driver) = (11, 11 + 19);
     let mut nets = vec![];
-    for (due, front, length) in
-        [("layers", 0, 8), ("driver", layers, 16), ("a node", driver, 24), ("no more", net.len(), 24)]
-    {
+    for (due, front, lengths) in [
+        ("layers", 0, &[8, 6, 12][..]),
+        ("driver", layers, &[16, 12]),
+        ("a node", driver, &[24]),
+        ("no more", net.len(), &[24]),
+    ] {
         for tag in 0..=255 {
-            for head in [&[tag][..], &[tag, 0], &[tag, 0, length]] {
-                nets.push((format!("where {due} is due: {head:02x?}"), [&net[..front], head].concat()));
+            let whole = lengths.iter().map(|&length| vec![tag, 0, length]);
+            for head in [vec![tag], vec![tag, 0]].into_iter().chain(whole) {
+                nets.push((format!("where {due} is due: {head:02x?}"), [&net[..front], &head].concat()));
             }
         }
     }
     nets
 }
 
-/// Layers fields of every count from 0 to 18, with no node, and one sink that fits.
+/// Layers fields of either edition and every count from 0 to 18, with no node, and one sink that fits.
 pub fn layer_counts() -> Vec<Named> {
     let mut nets = vec![];
-    for count in 0..=18 {
+    for (count, vias) in (0..=18).flat_map(|count| [(count, None), (count, Some(vec![1; count]))]) {
+        let name = format!("{count} layers{}", if vias.is_some() { " with vias" } else { "" });
         let mut draft = net_a(830);
         draft.layers = vec![(2, 3); count];
+        draft.vias = vias;
         draft.nodes[0].costs = vec![7; count];
-        nets.push((format!("{count} layers"), draft.bytes()));
+        nets.push((name.clone(), draft.bytes()));
         draft.nodes[0].costs = vec![7; count + 1];
-        nets.push((format!("{count} layers, a cost too many"), draft.bytes()));
+        nets.push((format!("{name}, a cost too many"), draft.bytes()));
         draft.nodes.clear();
-        nets.push((format!("{count} layers and no node"), draft.bytes()));
+        nets.push((format!("{name} and no node"), draft.bytes()));
     }
     nets
 }
@@ -311,7 +336,7 @@ pub fn rubbish(random: &mut Random) -> Vec<u8> {
     let mut bytes: Vec<u8> = (0..length).map(|_| random.next() as u8).collect();
     // Often the beginning of one.
     if random.one_in(2) {
-        let whole = net_b().bytes();
+        let whole = if random.one_in(2) { net_b() } else { net_b().with_vias(&[0, 2]) }.bytes();
         let kept = random.below(whole.len());
         bytes = [&whole[..kept], &bytes].concat();
     }

@@ -1,6 +1,7 @@
 //! A net before it is bytes.
 
 pub const UNIT: (i64, i64) = (1, 1_000);
+pub const VIA: (i64, i64) = (0, 1_000);
 pub const LENGTH: (i64, i64) = (0, 4_000);
 pub const COST: (i64, i64) = (1, 1_000_000);
 pub const GATE: (i64, i64) = (0, 100_000);
@@ -25,10 +26,12 @@ pub struct Node {
     pub kind: Kind,
 }
 
-/// A net as its records say it, not yet bytes. `nodes` holds nodes 1, 2, ...
+/// A net as its records say it, not yet bytes. `nodes` holds nodes 1, 2, ... With vias, one for each layer, it is of the
+/// second edition (02, wish 5): even if all are 0.
 #[derive(Clone)]
 pub struct Draft {
     pub layers: Vec<(i64, i64)>,
+    pub vias: Option<Vec<i64>>,
     pub resistance: i64,
     pub intrinsic: i64,
     pub arrival: i64,
@@ -77,6 +80,12 @@ impl Writer {
 }
 
 impl Draft {
+    /// Of the second edition, with these vias.
+    pub fn with_vias(mut self, vias: &[i64]) -> Draft {
+        self.vias = Some(vias.to_vec());
+        self
+    }
+
     pub fn bytes(&self) -> Vec<u8> {
         self.written().0
     }
@@ -84,10 +93,19 @@ impl Draft {
     /// The bytes, and what stands where.
     pub fn written(&self) -> (Vec<u8>, Vec<Place>) {
         let mut w = Writer::default();
-        w.head(1, 4 * self.layers.len());
-        for &(resistance, capacitance) in &self.layers {
+        match &self.vias {
+            None => w.head(1, 4 * self.layers.len()),
+            Some(vias) => {
+                assert_eq!(vias.len(), self.layers.len(), "a via for each layer");
+                w.head(7, 6 * self.layers.len());
+            }
+        }
+        for (layer, &(resistance, capacitance)) in self.layers.iter().enumerate() {
             w.number(resistance, 2, UNIT);
             w.number(capacitance, 2, UNIT);
+            if let Some(vias) = &self.vias {
+                w.number(vias[layer], 2, VIA);
+            }
         }
         w.fields += 1;
         w.head(2, 16);

@@ -1,6 +1,6 @@
 //! Random whole nets of several families.
 
-use super::draft::{Draft, Kind, Node, COST, GATE, INTRINSIC, LENGTH, MOST_LAYERS, MOST_NODES, MOST_STAGES, UNIT};
+use super::draft::{Draft, Kind, Node, COST, GATE, INTRINSIC, LENGTH, MOST_LAYERS, MOST_NODES, MOST_STAGES, UNIT, VIA};
 use super::times::set_times;
 use super::Random;
 
@@ -182,6 +182,7 @@ fn random_from(recipe: &Recipe, random: &mut Random) -> Draft {
     if recipe.prices == Prices::Rising {
         layers.sort_by_key(|layer| -layer.0);
     }
+    let vias = random.one_in(2).then(|| vias(recipe, random));
     let mut nodes = vec![];
     for (parent, letter) in parents.iter().zip(&kinds) {
         let mut costs: Vec<i64> = (0..recipe.layers).map(|_| value(random, recipe.costs, COST, 8, 3_000)).collect();
@@ -204,9 +205,20 @@ fn random_from(recipe: &Recipe, random: &mut Random) -> Draft {
     }
     let resistance = value(random, scale, GATE, 3, 50);
     let intrinsic = value(random, scale, INTRINSIC, 5, 2_000);
-    let mut draft = Draft { layers, resistance, intrinsic, arrival: 0, nodes };
+    let mut draft = Draft { layers, vias, resistance, intrinsic, arrival: 0, nodes };
     set_times(&mut draft, random);
     draft
+}
+
+/// For a net of the second edition: as large as its other numbers, each at an end of its range, or all at the same end.
+fn vias(recipe: &Recipe, random: &mut Random) -> Vec<i64> {
+    let scale = match random.below(8) {
+        0 => return vec![VIA.0; recipe.layers],
+        1 => return vec![VIA.1; recipe.layers],
+        2 => Scale::Ends,
+        _ => recipe.scale,
+    };
+    (0..recipe.layers).map(|_| value(random, scale, VIA, 3, 20)).collect()
 }
 
 fn value(random: &mut Random, scale: Scale, (low, high): (i64, i64), small: i64, middle: i64) -> i64 {

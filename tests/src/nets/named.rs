@@ -1,12 +1,15 @@
 //! The nets of 01, "Nets to try", and others made for one purpose each.
 
-use super::draft::{Draft, Kind, Node, COST, GATE, INTRINSIC, LENGTH, MOST_NODES, TIME, UNIT};
+use super::draft::{
+    Draft, Kind, Node, COST, GATE, INTRINSIC, LENGTH, MOST_LAYERS, MOST_NODES, MOST_STAGES, TIME, UNIT, VIA,
+};
 use super::times::leave_slack;
 
 /// Net A with another required time.
 pub fn net_a(required: i64) -> Draft {
     Draft {
         layers: vec![(4, 1), (1, 1)],
+        vias: None,
         resistance: 1,
         intrinsic: 0,
         arrival: 0,
@@ -43,7 +46,8 @@ pub fn line(buffers: usize, steiner: usize) -> Draft {
 
 /// A line with every number at its upper end, less this: first buffers, then Steiner points, then a sink; so many more
 /// sinks stand beside the way, one at each of the last points. The best slack is 0, if there is an arrival time for it.
-/// With 255 nodes there is none, and the sinks are required and the driver arrives so that the slack is the least.
+/// With 255 nodes there is none, and the sinks are required and the driver arrives so that the slack is the least. It is
+/// of the second edition: with vias.
 pub fn slowest(count: usize, buffers: usize, beside: usize, less: i64) -> Draft {
     let (gate, intrinsic) = (GATE.1 - less, INTRINSIC.1 - less);
     let required = if count == MOST_NODES { TIME.0 } else { TIME.1 };
@@ -58,7 +62,8 @@ pub fn slowest(count: usize, buffers: usize, beside: usize, less: i64) -> Draft 
     nodes.push(sink(way - 1));
     nodes.extend((1..=beside).map(|place| sink(way - place)));
     let layers = vec![(UNIT.1 - less, UNIT.1 - less), (UNIT.1, UNIT.1)];
-    let mut draft = Draft { layers, resistance: gate, intrinsic, arrival: TIME.1, nodes };
+    let vias = Some(vec![VIA.1 - less, VIA.1]);
+    let mut draft = Draft { layers, vias, resistance: gate, intrinsic, arrival: TIME.1, nodes };
     leave_slack(&mut draft, 0);
     draft
 }
@@ -97,7 +102,8 @@ pub fn star(branches: usize) -> Draft {
         let required = 40 * (number as i64 % 5);
         nodes.push(hung(number, &[1, 2, 4], Kind::Sink { capacitance: 3, required }));
     }
-    let mut draft = Draft { layers: vec![(3, 2), (2, 2), (1, 1)], resistance: 1, intrinsic: 5, arrival: 0, nodes };
+    let layers = vec![(3, 2), (2, 2), (1, 1)];
+    let mut draft = Draft { layers, vias: None, resistance: 1, intrinsic: 5, arrival: 0, nodes };
     leave_slack(&mut draft, 11 * branches as i128);
     draft
 }
@@ -113,7 +119,8 @@ pub fn crossed() -> Draft {
         hung(2, &[5, 2], sink.clone()),
         hung(3, &[1, 4], sink),
     ];
-    let mut draft = Draft { layers: vec![(4, 1), (1, 2)], resistance: 1, intrinsic: 2, arrival: 0, nodes };
+    let layers = vec![(4, 1), (1, 2)];
+    let mut draft = Draft { layers, vias: None, resistance: 1, intrinsic: 2, arrival: 0, nodes };
     leave_slack(&mut draft, 60);
     draft
 }
@@ -125,7 +132,7 @@ pub fn even_tree() -> Draft {
         _ => Kind::Sink { capacitance: number as i64 % 7, required: 5_000 - 3 * number as i64 },
     };
     let nodes = (1..=MOST_NODES).map(|number| hung(number / 2, &[1, 2], kind(number))).collect();
-    Draft { layers: vec![(2, 1), (1, 1)], resistance: 1, intrinsic: 0, arrival: 0, nodes }
+    Draft { layers: vec![(2, 1), (1, 1)], vias: None, resistance: 1, intrinsic: 0, arrival: 0, nodes }
 }
 
 /// The even tree with every number at its upper end but for these: the unit resistance, and the length of all edges but
@@ -133,6 +140,7 @@ pub fn even_tree() -> Draft {
 pub fn full_tree(unit_resistance: i64, length: i64) -> Draft {
     let mut draft = even_tree();
     draft.layers = vec![(unit_resistance, UNIT.1); 2];
+    draft.vias = Some(vec![VIA.1; 2]);
     (draft.resistance, draft.intrinsic) = (GATE.1, INTRINSIC.1);
     for node in &mut draft.nodes {
         node.length = if node.parent == 0 { LENGTH.1 } else { length };
@@ -168,7 +176,7 @@ pub fn costing(total: i64) -> Draft {
 pub fn no_delay(arrival: i64, required: i64) -> Draft {
     let sink = Kind::Sink { capacitance: 0, required };
     let nodes = vec![Node { parent: 0, length: 0, costs: vec![1, 1], kind: sink }];
-    Draft { layers: vec![(1, 1), (1, 1)], resistance: 0, intrinsic: 0, arrival, nodes }
+    Draft { layers: vec![(1, 1), (1, 1)], vias: None, resistance: 0, intrinsic: 0, arrival, nodes }
 }
 
 /// 64 stages, 255 nodes and 16 layers, of which the last is the cheapest.
@@ -202,5 +210,21 @@ pub fn all_kinds() -> Draft {
         hung(2, &[6, 7], sink(110)),
         hung(2, &[1, 2], sink(112)),
     ];
-    Draft { layers: vec![(4, 1), (1, 1)], resistance: 1, intrinsic: 2, arrival: -5, nodes }
+    Draft { layers: vec![(4, 1), (1, 1)], vias: None, resistance: 1, intrinsic: 2, arrival: -5, nodes }
+}
+
+/// The longest net in bytes: 16 layers with vias, 63 buffers, 128 sinks and 64 Steiner points. The driver has room for a
+/// second child.
+pub fn longest() -> Draft {
+    let mut draft = even_tree();
+    draft.layers = vec![(1, 1); MOST_LAYERS];
+    draft.vias = Some((0..MOST_LAYERS as i64).map(|layer| layer % 3).collect());
+    for (place, node) in draft.nodes.iter_mut().enumerate() {
+        node.costs = (1..=MOST_LAYERS as i64).collect();
+        if place % 2 == 0 && place / 2 < MOST_STAGES - 1 {
+            node.kind = Kind::Buffer { capacitance: 1, resistance: 1, intrinsic: 1 };
+        }
+    }
+    leave_slack(&mut draft, 30);
+    draft
 }

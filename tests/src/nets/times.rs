@@ -80,10 +80,10 @@ fn delay_to_sink(net: &Net, sink: usize, plan: &[u8]) -> i128 {
     let (mut delay, mut node) = (0, sink);
     while node != 0 {
         let layer = plan[plain::stage_of_edge(net, node)] as usize;
-        delay += plain::edge_delay(net, node, layer);
+        delay += plain::way_delay(net, node, layer);
         node = net.nodes[node].parent;
         if plain::is_root(net, node) {
-            delay += plain::gate_delay(net, node, layer);
+            delay += plain::root_delay(net, node, layer);
         }
     }
     delay
@@ -99,9 +99,9 @@ fn best_required(net: &Net, root: usize) -> i128 {
         })
         .collect();
     let on = |layer: usize| -> i128 {
-        let gate = plain::gate_delay(net, root, layer);
-        let wires = plain::terminals_below(net, root, layer);
-        below.iter().zip(wires).map(|(below, wire)| below.1 - gate - wire.1).min().expect("a terminal")
+        let gate = plain::root_delay(net, root, layer);
+        let ways = plain::terminals_below(net, root, layer);
+        below.iter().zip(ways).map(|(below, way)| below.1 - gate - way.1).min().expect("a terminal")
     };
     (0..net.layers.len()).map(on).max().expect("a layer")
 }

@@ -10,8 +10,13 @@ use std::sync::OnceLock;
 const WIDEST: i128 = 2_000;
 
 /// The least slack there is: from the latest arrival time to the earliest required time, with a delay of
-/// 1,041,069,681,000,000,000 ticks.
-const LEAST_SLACK: i128 = -1_043_069_681_000_000_000;
+/// 1,041,071,722,000,000,000 ticks. Of these the climbs take 2,041,000,000,000: 2 × 1,000 × 1,020,400,000 at the root, where
+/// 255 edges and four sinks are borne, and 2 × 1,000 × 100,000 at the sink.
+const LEAST_SLACK: i128 = -1_043_071_722_000_000_000;
+
+/// The same for a net without vias, and for a line.
+const LEAST_WITHOUT_VIAS: i128 = -1_043_069_681_000_000_000;
+const LEAST_OF_LINE: i128 = -1_042_810_061_400_000_000;
 
 /// Shares, lengths and times at their limits: the same calls every time.
 pub fn numbers(c: &mut Comparison) -> Outcome {
@@ -44,7 +49,16 @@ pub fn shapes(random: &mut Random) -> Vec<(String, Draft)> {
         (String::from("a stage of 128 sinks"), nets::even_tree()),
         (String::from("the dearest stage"), nets::costing(255_000_000)),
         (String::from("64 stages, the last layer the cheapest"), nets::last_layer_cheapest()),
+        (String::from("the longest net"), nets::longest()),
     ];
+    for (name, mut draft) in [
+        ("file order is not tree order, with vias", nets::crossed().with_vias(&[0, 3])),
+        ("a stage that drives 63, with vias", nets::star(63).with_vias(&[2, 0, 5])),
+        ("a stage of 128 sinks, with vias", nets::even_tree().with_vias(&[1, 0])),
+    ] {
+        nets::leave_slack(&mut draft, 40);
+        shapes.push((String::from(name), draft));
+    }
     // With only ones in binary, V(k) grows as much as it can from one k to the next.
     for cost in [1, 3, 15, 63] {
         shapes.push((format!("64 stages of cost {cost}"), nets::even_line(64, cost)));
@@ -80,7 +94,20 @@ fn slowest() -> Vec<(String, Draft)> {
         let draft = nets::slowest(MOST_NODES, 0, beside, less);
         slow.push((format!("slowest net, {beside} sinks beside the way, less {less}"), draft));
     }
+    slow.push((String::from("slowest net without vias"), slowest_without_vias(beside)));
     slow
+}
+
+/// The slowest net of the first edition.
+fn slowest_without_vias(beside: usize) -> Draft {
+    let draft = Draft { vias: None, ..nets::slowest(MOST_NODES, 0, beside, 0) };
+    assert_eq!(slack_on_first(&draft), LEAST_WITHOUT_VIAS, "{beside} sinks beside the way");
+    draft
+}
+
+/// The slack of a net of one stage, on layer 0.
+fn slack_on_first(draft: &Draft) -> i128 {
+    plain::slack(&plain::read(&draft.bytes()).expect("a whole net"), &[0])
 }
 
 /// Nets that are met with no time to spare, and late by one tick.
@@ -102,19 +129,16 @@ fn just_met() -> Vec<(String, Draft)> {
 /// How many sinks stand beside the way in the slowest net of all: the number is found by trying each.
 ///
 /// That it is of this form: the delay to a sink rises with every number of the net, so all are at their upper ends. A
-/// buffer on the way made a Steiner point takes its gate delay away, 2 × 100,000 × L + 10^9 where L is the load below it,
-/// but the edge above it then bears L, not 100,000, which adds 2 × 4,000,000 × (L − 100,000), and L is at least 4,100,000;
-/// one beside the way only adds load. So there is one stage. Let a branch beside the way have Steiner points: put into
-/// the way just below the point where the branch hangs, with its sinks at that point and at them, they make the way
-/// longer, and no load is borne by fewer of its edges. So only sinks are beside the way, each at a point of it; and the
-/// further down one hangs, the more edges bear it.
+/// buffer on the way made a Steiner point takes its gate delay and its two climbs away, 2 × 100,000 × L + 10^9 and
+/// 2 × 1,000 × (L + 100,000) where L is the load below it, but the edge above it then bears L, not 100,000, which adds
+/// 2 × 4,000,000 × (L − 100,000), and L is at least 4,100,000; one beside the way only adds load. So there is one stage. Let
+/// a branch beside the way have Steiner points: put into the way just below the point where the branch hangs, with its
+/// sinks at that point and at them, they make the way longer, and no load is borne by fewer of its edges. So only sinks
+/// are beside the way, each at a point of it; and the further down one hangs, the more edges bear it.
 fn slowest_beside() -> usize {
-    let slack = |beside: usize| {
-        let bytes = nets::slowest(MOST_NODES, 0, beside, 0).bytes();
-        plain::slack(&plain::read(&bytes).expect("a whole net"), &[0])
-    };
+    let slack = |beside: usize| slack_on_first(&nets::slowest(MOST_NODES, 0, beside, 0));
     let found = (0..=MOST_NODES / 2).min_by_key(|&beside| slack(beside)).expect("a number");
-    assert_eq!(slack(found), LEAST_SLACK, "{found} sinks beside the way");
+    assert_eq!((slack(found), slack(0)), (LEAST_SLACK, LEAST_OF_LINE), "{found} sinks beside the way, and none");
     found
 }
 

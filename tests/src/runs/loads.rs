@@ -6,7 +6,7 @@ use crate::nets::{self, Random, LENGTH, MOST_NODES, UNIT};
 use crate::plain::{self, Kind, Net};
 use crate::wrong::Walk;
 
-/// What is printed for net B.
+/// What is printed for net B, whatever its vias.
 const NET_B: &str = "stage 0 edges 1 loads 15 15\nstage 1 edges 1 loads 15 15\n";
 
 /// Bytes with a name.
@@ -26,6 +26,7 @@ fn fixed() -> Vec<Named> {
     let named = [
         ("A", nets::net_a(830)),
         ("B", nets::net_b()),
+        ("B with vias", nets::net_b().with_vias(&[0, 2])),
         ("all kinds", nets::all_kinds()),
         ("no load", nets::no_delay(0, 0)),
         ("the slowest line that is met", nets::slowest_met()),
@@ -34,7 +35,7 @@ fn fixed() -> Vec<Named> {
     ];
     let whole = named.map(|(name, draft)| (String::from(name), draft)).into_iter().chain(shapes(&mut Random::new(3)));
     let refused = nets::unreadable().into_iter().map(|(number, bytes)| (format!("refused with {number}"), bytes));
-    let counts = nets::lines_around_limits().into_iter().chain(nets::layer_counts());
+    let counts = nets::lines_around_limits().into_iter().chain(nets::layer_counts()).chain(nets::around_longest());
     whole.map(|(name, draft)| (name, draft.bytes())).chain(refused).chain(counts).collect()
 }
 
@@ -60,9 +61,11 @@ fn damaged_net(random: &mut Random) -> Vec<u8> {
 /// The second implementation against itself, and one pass over the edges against it. Says how many nets there are, or
 /// which has a fault.
 pub fn agreement(nets: &[Printed]) -> Result<String, String> {
-    let example = Printed::new("B", &nets::net_b().bytes()).text;
-    if example != NET_B {
-        return Err(format!("net B: {example:?}"));
+    for draft in [nets::net_b(), nets::net_b().with_vias(&[0, 2])] {
+        let example = Printed::new("B", &draft.bytes()).text;
+        if example != NET_B {
+            return Err(format!("net B: {example:?}"));
+        }
     }
     for (number, net) in nets.iter().enumerate() {
         let own = net.faults().into_iter().map(String::from);
@@ -100,6 +103,10 @@ const KINDS: &[(&str, fn(&Staged) -> usize)] = &[
     }),
     ("nets whose buffers stand in the file in another order than in the tree", |read| {
         (roots_along_tree(&read.net, 0) != plain::roots(&read.net)) as usize
+    }),
+    ("nets with a via resistance of 0 and one of 1,000", |read| (has_via(read, 0) && has_via(read, 1_000)) as usize),
+    ("nets of 16 layers with a via resistance of 1,000", |read| {
+        (read.net.layers.len() == 16 && has_via(read, 1_000)) as usize
     }),
     ("stages of one edge", |read| stages(read, |stage| stage.edges.len() == 1)),
     ("stages of two edges", |read| stages(read, |stage| stage.edges.len() == 2)),
@@ -144,6 +151,10 @@ const KINDS: &[(&str, fn(&Staged) -> usize)] = &[
     ("loads of 0", |read| loads(read, 0)),
     ("loads of 1,032,800,000, the largest there is", |read| loads(read, LARGEST_LOAD)),
 ];
+
+fn has_via(read: &Staged, resistance: i128) -> bool {
+    read.net.layers.iter().any(|layer| layer.via == resistance)
+}
 
 fn stages(read: &Staged, holds: impl Fn(&Stage) -> bool) -> usize {
     read.stages.iter().filter(|stage| holds(stage)).count()
@@ -200,8 +211,10 @@ pub fn met(nets: &[Printed]) -> Vec<(String, usize)> {
         (format!("bytes refused with {number}"), nets.iter().filter(with_number).count())
     });
     let read = || nets.iter().filter_map(|net| net.read.as_ref().ok());
-    let layers = (1..=16).map(|layers| {
-        (format!("nets of layer count {layers}"), read().filter(|read| read.net.layers.len() == layers).count())
+    let layers = [1, 7].into_iter().flat_map(|tag| (1..=16).map(move |layers| (tag, layers))).map(|(tag, layers)| {
+        let counted = |net: &&Printed| net.read.as_ref().is_ok_and(|read| read.net.layers.len() == layers);
+        let with_tag = nets.iter().filter(|net| net.bytes.first() == Some(&tag));
+        (format!("nets of tag {tag} and layer count {layers}"), with_tag.filter(counted).count())
     });
     let kinds = KINDS.iter().map(|(words, often)| (String::from(*words), read().map(often).sum()));
     refused.chain(layers).chain(kinds).collect()

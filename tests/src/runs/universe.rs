@@ -11,8 +11,16 @@ type Tree = Vec<(usize, char)>;
 /// An edge: length, and cost on each layer.
 type Edge = (i64, [i64; 3]);
 
-/// The layers of a net. Of three the first and the last are alike.
-const LAYERS: &[&[(i64, i64)]] = &[&[(1, 1)], &[(2, 1), (1, 2)], &[(1, 1), (2, 1), (1, 1)]];
+/// The layers of a net: the units, and the vias of one of the second edition.
+type Layers = (&'static [(i64, i64)], Option<&'static [i64]>);
+
+/// Of three layers the first and the last are alike.
+const LAYERS: &[Layers] = &[
+    (&[(1, 1)], None),
+    (&[(2, 1), (1, 2)], None),
+    (&[(2, 1), (1, 2)], Some(&[0, 1])),
+    (&[(1, 1), (2, 1), (1, 1)], None),
+];
 
 const EDGES: &[Edge] = &[(1, [2, 1, 2]), (1, [1, 3, 1]), (0, [4, 4, 4])];
 
@@ -26,13 +34,13 @@ pub fn run(c: &mut Comparison) -> Outcome {
     for nodes in 1..=3 {
         all_trees(c, nodes, LAYERS, EDGES, REQUIRED)?;
     }
-    all_trees(c, 4, &LAYERS[..2], &EDGES[..2], &REQUIRED[..1])
+    all_trees(c, 4, &LAYERS[..3], &EDGES[..2], &REQUIRED[..1])
 }
 
-fn all_trees(c: &mut Comparison, nodes: usize, layers: &[&[(i64, i64)]], edges: &[Edge], times: &[i64]) -> Outcome {
+fn all_trees(c: &mut Comparison, nodes: usize, layers: &[Layers], edges: &[Edge], times: &[i64]) -> Outcome {
     for tree in trees(nodes) {
         let sinks = tree.iter().filter(|node| node.1 == 'T').count();
-        for layers in layers {
+        for &layers in layers {
             for edges in words(edges, nodes) {
                 for times in words(times, sinks) {
                     planned(c, &tree, draft(&tree, layers, &edges, &times))?;
@@ -76,7 +84,7 @@ fn trees(nodes: usize) -> Vec<Tree> {
     trees
 }
 
-fn draft(tree: &Tree, layers: &[(i64, i64)], edges: &[Edge], required: &[i64]) -> Draft {
+fn draft(tree: &Tree, (layers, vias): Layers, edges: &[Edge], required: &[i64]) -> Draft {
     let mut required = required.iter();
     let mut nodes = vec![];
     for (&(parent, letter), &(length, costs)) in tree.iter().zip(edges) {
@@ -87,7 +95,7 @@ fn draft(tree: &Tree, layers: &[(i64, i64)], edges: &[Edge], required: &[i64]) -
         };
         nodes.push(Node { parent, length, costs: costs[..layers.len()].to_vec(), kind });
     }
-    Draft { layers: layers.to_vec(), resistance: 1, intrinsic: 0, arrival: 0, nodes }
+    Draft { layers: layers.to_vec(), vias: vias.map(<[i64]>::to_vec), resistance: 1, intrinsic: 0, arrival: 0, nodes }
 }
 
 /// Each slack that a plan has is an arrival time at which this plan just meets timing; one tick later than the last

@@ -108,6 +108,8 @@ const EDGES: &[(&str, fn(&Edge) -> bool)] = &[
     ("node 255's edge", |edge| edge.node == 255),
     ("edges in nets of one layer", |edge| edge.net.layers.len() == 1),
     ("edges in nets of 16 layers", |edge| edge.net.layers.len() == 16),
+    ("edges in nets with vias", |edge| edge.net.second),
+    ("edges in nets of 16 layers with vias", |edge| edge.net.second && edge.net.layers.len() == 16),
 ];
 
 /// The place of those that add nothing.
@@ -202,6 +204,17 @@ const IN_LOADS: &[(&str, fn(&Edge, usize, &mut [i128]))] = &[
     }),
     ("unit resistance for capacitance", |edge, layer, loads| {
         loads[edge.parent()] += (edge.lower().length * edge.net.layers[layer].0) as i128 + edge.load(loads)
+    }),
+    ("vias counted as load of each edge", |edge, layer, loads| {
+        loads[edge.parent()] += edge.wire(layer) + edge.load(loads) + edge.net.vias[layer] as i128
+    }),
+    ("vias counted as load of each terminal", |edge, layer, loads| {
+        let via = if edge.lower().is_terminal() { edge.net.vias[layer] as i128 } else { 0 };
+        loads[edge.parent()] += edge.wire(layer) + edge.load(loads) + via
+    }),
+    ("vias for unit capacitances where there are some", |edge, layer, loads| {
+        let via = edge.lower().length as i128 * edge.net.vias[layer] as i128;
+        loads[edge.parent()] += if edge.net.second { via } else { edge.wire(layer) } + edge.load(loads)
     }),
     ("length without unit capacitance", |edge, _, loads| {
         loads[edge.parent()] += edge.lower().length as i128 + edge.load(loads)

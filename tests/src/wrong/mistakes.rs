@@ -51,6 +51,64 @@ with_words! {
 }
 
 with_words! {
+    /// About the two editions of the layers field, and vias as they are read; see also `Slip`.
+    Edition {
+        SecondRefused "tag 7 refused",
+        FirstRefused "tag 1 refused",
+        SecondAsFirst "tag 7 read with four bytes a layer",
+        FirstAsSecond "tag 1 read with six bytes a layer",
+        FirstOf6 "tag 1 with a length that only tag 7 has read as tag 7",
+        SecondOf4 "tag 7 with a length that only tag 1 has read as tag 1",
+        ByLength "a length that both tags have read as tag 7",
+        ByLength1 "a length that both tags have read as tag 1",
+        Above64Refused "tag 7 with more than 64 bytes refused",
+        SixRefused "tag 7 with 6 bytes refused",
+        SixteenRefused "tag 7 with 96 bytes refused",
+        SeventeenAccepted "tag 7 with 102 bytes accepted",
+        NoneAccepted "tag 7 with no bytes accepted",
+        Rounded "tag 7 with lengths that are no multiple of 6 accepted",
+        MultipleOf2 "tag 7 with lengths that are no multiple of 6 but of 2 accepted",
+        Tag6 "tag 6 read as tag 7",
+        Tag8 "tag 8 read as tag 7",
+        Tag15 "tag 15 read as tag 7",
+        ViaFirst "a layer's via read before its units",
+        ViaBetween "a layer's via read between its units",
+        LittleEndian "vias with their low byte first",
+        HighByte "vias by their high byte",
+        Unchecked "vias not looked at",
+        LastUnchecked "the last layer's via not looked at",
+        FirstOnly "the vias of layers after the first not looked at",
+        Bound1023 "vias up to 1,023 accepted",
+        Bound1024 "vias up to 1,024 accepted",
+        Bound4000 "vias up to 4,000 accepted",
+        Bound32767 "vias up to 32,767 accepted",
+        ReadBy10Bits "vias by their low 10 bits before they are looked at",
+        KeptIn9Bits "vias by their low 9 bits once they are in range",
+        KeptIn8Bits "vias by their low 8 bits once they are in range",
+        IsTwo "a via outside its range gives 2",
+        CheckedLate "vias looked at after the driver's field",
+        BeforePayload "a via outside its range seen before the payload is known to be there",
+        OfNext "each layer with the via of the next",
+        OfLayer0 "each layer with layer 0's via",
+        OfLastLayer "each layer with the last layer's via",
+        Stale "a tag 1 file with the vias of the last tag 7 file",
+        FirstHas1 "a tag 1 file with via resistance 1",
+        FirstHas1OnLast "a tag 1 file with via resistance 1 on its last layer",
+        FirstHasResistance "a tag 1 file with its unit resistances as vias",
+        FirstHasCapacitance "a tag 1 file with its unit capacitances as vias",
+        FirstHasNext "a tag 1 file with the next layer's unit resistance as via",
+    }
+}
+
+impl Edition {
+    /// Gives vias to tag 1 files alone.
+    pub fn is_of_first(self) -> bool {
+        use Edition::*;
+        matches!(self, FirstHas1 | FirstHas1OnLast | FirstHasResistance | FirstHasCapacitance | FirstHasNext)
+    }
+}
+
+with_words! {
     /// About timing and costs: made where a plan is judged, or where one is searched for.
     Timing {
         OwnWireOnly "load counting only the path's own wire",
@@ -83,6 +141,47 @@ with_words! {
         Load29 "loads by their low 29 bits",
         Times48 "times by their low 48 bits",
         Cost24 "costs of stages by their low 24 bits",
+        // Vias.
+        NoVias "no vias",
+        NoRootVia "no via at the root",
+        NoTerminalVia "no via at terminals",
+        RootViaOnce "the root's via without the factor 2",
+        TerminalViaOnce "the terminal's via without the factor 2",
+        RootViaOfDriver "a via at the root of the driver's stage only",
+        RootViaOfBuffers "no via at the root of the driver's stage",
+        TerminalViaOfSinks "no via at buffers' pins",
+        TerminalViaOfBuffers "no via at sinks",
+        PinByLowerStage "a buffer's pin climbed from on the layer of the stage that it drives",
+        PinByBothStages "a buffer's pin climbed from on the layers of both its stages",
+        RootByUpperStage "a buffer's root via paid by the stage above",
+        TerminalsOnEveryWay "the vias of all terminals on the way to each",
+        RootViaForEachEdge "the root's via once for each edge of the way",
+        RootViaForEachChild "the root's via once for each child of the root",
+        ViaAboveEachEdge "a via at the upper end of each edge",
+        ViaAtSteinerPoints "a via at the lower end of each edge",
+        RootViaOwnWay "the root's via with the load of the way alone",
+        RootViaFirstChild "the root's via without the load of the root's second child",
+        RootViaOwnInput "the root's via with the buffer's own input capacitance",
+        TerminalViaWithWire "the terminal's via with the load of the edge above it",
+        TerminalViaLoadBelow "a buffer's pin with the load that the buffer drives",
+        TerminalViaSecondChild "no via at terminals that are second children",
+        TerminalViaAtRoot "no via at terminals directly below the root",
+        TerminalViaEmptyEdge "no via at terminals at the end of an edge of length 0",
+        RootViaEmptyEdge "no via at a root with only edges of length 0",
+        ViaInWire "a via counted as load of each edge",
+        ViaInInput "a via counted as load of each terminal",
+        ViaInEdges "a via added to the resistance of each edge",
+        ViaTimesUnit "a via multiplied by the unit resistance",
+        ViaProduct32 "a via's delay by its low 32 bits",
+        ViaProduct40 "a via's delay by its low 40 bits",
+        ViaSigned32 "a via's delay with its sign in 32 bits",
+    }
+}
+
+impl Timing {
+    /// Does it show on nets with vias alone?
+    pub fn is_of_vias(self) -> bool {
+        self as usize >= Timing::NoVias as usize
     }
 }
 
@@ -247,6 +346,7 @@ with_words! {
         NetLength8 "payload lengths by their low byte",
         NetLengthSigned "a payload of 32,768 bytes or more gives 13",
         LongNetRefused "a payload longer than any net gives 13",
+        LongerThanTag1Refused "a payload longer than any net of tag 1 gives 13",
         UnreadableRefused "a net that cannot be read gives 13",
         NoBytesRefused "a net of no bytes gives 13",
         NoBytesSkipped "a net of no bytes not counted",
@@ -260,6 +360,8 @@ with_words! {
         TableShorter "a table of 8,191 entries",
         TableLonger "a table of 8,256 entries",
         BufferShorter "a plan buffer of 63",
+        WithoutVias "nets planned without vias",
+        SecondEditionRefused "nets of tag 7 refused with 2",
         // Nets, planned, refused.
         NetsArePlanned "nets counting the planned ones only",
         AllPlanned "planned counting all nets",
@@ -309,6 +411,7 @@ pub enum Mistake {
     /// About the number at a place of `NUMBERS`.
     Number(usize, Slip),
     Length(Length),
+    Edition(Edition),
     /// Where plans are judged, or where one is searched for.
     Timing(Call, Timing),
     /// One refusal given before another; 1 stands for 1 to 6.
@@ -335,6 +438,7 @@ impl Mistake {
             Mistake::Block(slip) => format!("report: {}", slip.words()),
             Mistake::Number(place, slip) => format!("{}: {}", NUMBERS[place].0, slip.words()),
             Mistake::Length(slip) => String::from(slip.words()),
+            Mistake::Edition(slip) => String::from(slip.words()),
             Mistake::Timing(Call::Judge, timing) => format!("{}, in judging", timing.words()),
             Mistake::Timing(_, timing) => format!("{}, in the search", timing.words()),
             Mistake::Before(call, early, 1) => format!("{}: {early} before 1 to 6", call.words()),
@@ -364,6 +468,7 @@ impl Mistake {
             all.extend(made.map(|&slip| Mistake::Number(place, slip)));
         }
         all.extend(Length::ALL.iter().map(|&slip| Mistake::Length(slip)));
+        all.extend(Edition::ALL.iter().map(|&slip| Mistake::Edition(slip)));
         all.extend(Timing::ALL.iter().map(|&timing| Mistake::Timing(Call::Judge, timing)));
         // No plan that meets timing has a delay that 64 bits of floating point cannot hold.
         let in_search = Timing::ALL.iter().filter(|&&timing| timing != Timing::Floats64);

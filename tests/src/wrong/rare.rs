@@ -51,6 +51,14 @@ fn sinks(facts: &Facts) -> impl Iterator<Item = i64> {
     times.into_iter()
 }
 
+/// Is there a stage that pays vias, or else one that does not, with one below it of which the other holds?
+fn below_other(facts: &Facts, above: bool) -> bool {
+    let pays = |stage: usize| facts.net.vias[facts.plan[stage]] > 0;
+    let stages = facts.timed.stages.iter().enumerate().filter(|&(stage, _)| pays(stage) == above);
+    let mut below = stages.flat_map(|(_, stage)| &stage.ends).filter_map(|end| end.stage);
+    below.any(|stage| pays(stage) != above)
+}
+
 pub const IN_PLANS: &[(&str, fn(&Facts) -> bool)] = &[
     ("with 64 stages", |facts| facts.plan.len() == 64),
     ("with 63 stages", |facts| facts.plan.len() == 63),
@@ -86,6 +94,20 @@ pub const IN_PLANS: &[(&str, fn(&Facts) -> bool)] = &[
     ("with a gate resistance of 100,000", |facts| facts.net.nodes.iter().any(|node| node.resistance == 100_000)),
     ("with an intrinsic delay of 10^9", |facts| facts.net.nodes.iter().any(|node| node.intrinsic == 1_000_000_000)),
     ("with no input capacitance", |facts| facts.net.nodes.iter().all(|node| node.capacitance == 0)),
+    ("of tag 1", |facts| !facts.net.second),
+    ("of tag 7", |facts| facts.net.second),
+    ("of tag 7 with vias of 0 alone", |facts| facts.net.second && facts.net.vias.iter().all(|&via| via == 0)),
+    ("of tag 7 with a via of 1,000", |facts| facts.net.vias.contains(&1_000)),
+    ("of tag 7 with one layer", |facts| facts.net.second && facts.timed.layers == 1),
+    ("of tag 7 with 16 layers", |facts| facts.net.second && facts.timed.layers == 16),
+    ("of tag 7 with 64 stages and 16 layers", |facts| {
+        facts.net.second && facts.plan.len() == 64 && facts.timed.layers == 16
+    }),
+    ("of tag 7 where a via is paid on layer 15", |facts| {
+        facts.plan.contains(&15) && facts.net.vias.get(15).is_some_and(|&via| via > 0)
+    }),
+    ("of tag 7 where a stage pays vias below one that does not", |facts| below_other(facts, false)),
+    ("of tag 7 where a stage pays no vias below one that does", |facts| below_other(facts, true)),
     ("with a cost of 255,000,000", |facts| facts.cost == 255_000_000),
     ("with a cost beyond 2^27", |facts| facts.cost >> 27 != 0),
 ];

@@ -1,7 +1,8 @@
 //! Reading net bytes.
 
-use super::mistakes::{Length, Mistake, Other, Slip};
+use super::mistakes::{Edition, Length, Mistake, Other, Slip};
 use super::{low_bits, Wrong};
+use std::cell::RefCell;
 
 pub const LAST_TIME: i64 = 1_000_000_000_000_000;
 
@@ -19,10 +20,12 @@ pub const NUMBERS: &[(&str, usize, i64, i64)] = &[
     ("buffer's intrinsic delay", 4, 0, 1_000_000_000),
     ("sink's input capacitance", 4, 0, 100_000),
     ("required time", 8, -LAST_TIME, LAST_TIME),
+    ("via resistance", 2, 0, 1_000),
 ];
 
-/// The place of the length among them.
+/// The places of length and via among them.
 const LENGTH: usize = 5;
+const VIA: usize = 12;
 
 pub const DRIVER: u8 = 2;
 pub const STEINER: u8 = 3;
@@ -56,9 +59,20 @@ impl Node {
 #[derive(Default)]
 pub struct Net {
     pub layers: Vec<(i64, i64)>,
+    /// One for each layer.
+    pub vias: Vec<i64>,
+    /// Is it of the second edition?
+    pub second: bool,
     pub nodes: Vec<Node>,
     /// A third child that was let through.
     third_child: bool,
+    /// A via outside its range that was let through.
+    bad_via: bool,
+}
+
+thread_local! {
+    /// The vias of the last tag 7 file, for a planner that keeps them.
+    static LAST_VIAS: RefCell<Vec<i64>> = const { RefCell::new(vec![]) };
 }
 
 impl Net {
@@ -141,7 +155,44 @@ impl Cursor<'_> {
     }
 }
 
+impl Cursor<'_> {
+    /// The via resistance of a layer.
+    fn via(&mut self, layer: usize, is_last: bool) -> i64 {
+        let Mistake::Edition(slip) = self.mistake else { return self.number(VIA) };
+        let read = self.unsigned(2);
+        let value = match slip {
+            Edition::LittleEndian => (read as u16).swap_bytes() as i64,
+            Edition::HighByte => read >> 8,
+            Edition::ReadBy10Bits => read & 0x3FF,
+            _ => read,
+        };
+        let highest = match slip {
+            Edition::Bound1023 => 1_023,
+            Edition::Bound1024 => 1_024,
+            Edition::Bound4000 => 4_000,
+            Edition::Bound32767 => 32_767,
+            Edition::Unchecked | Edition::IsTwo | Edition::CheckedLate => 65_535,
+            Edition::LastUnchecked if is_last => 65_535,
+            Edition::FirstOnly if layer > 0 => 65_535,
+            _ => NUMBERS[VIA].3,
+        };
+        self.bad |= value > highest;
+        match slip {
+            Edition::KeptIn9Bits => value & 0x1FF,
+            Edition::KeptIn8Bits => value & 0xFF,
+            _ => value,
+        }
+    }
+}
+
 impl Wrong {
+    fn edition_slip(&self) -> Option<Edition> {
+        match self.mistake {
+            Mistake::Edition(slip) => Some(slip),
+            _ => None,
+        }
+    }
+
     pub fn read(&self, bytes: &[u8]) -> Result<Net, u8> {
         let length = if self.makes(Other::LongNetCut) { low_bits(bytes.len(), 16) } else { bytes.len() };
         let mut net = Net::default();
@@ -153,12 +204,17 @@ impl Wrong {
             }
             let (tag, mut cursor) = self.field(&net, field, &mut rest)?;
             match field {
-                0 => self.read_layers(&mut net, &mut cursor),
+                0 => self.read_layers(&mut net, tag, &mut cursor),
                 1 => net.nodes.push(read_driver(&mut cursor)),
                 _ => self.read_node(&mut net, tag, &mut cursor)?,
             }
             if cursor.bad {
                 return Err(3);
+            }
+            match self.edition_slip() {
+                Some(Edition::IsTwo) if net.bad_via => return Err(2),
+                Some(Edition::CheckedLate) if net.bad_via && field == 1 => return Err(3),
+                _ => {}
             }
         }
         self.whole(&net)?;
@@ -168,7 +224,7 @@ impl Wrong {
     /// Head, tag and length, payload.
     fn field<'a>(&self, net: &Net, field: usize, rest: &mut &'a [u8]) -> Result<(u8, Cursor<'a>), u8> {
         if rest.len() < 3 {
-            let allowed = if field < 2 { field as u8 + 1..=field as u8 + 1 } else { 3..=5 };
+            let allowed: &[u8] = [&[1, 7][..], &[2], &[3, 4, 5]][field.min(2)];
             let wrong_tag = rest.first().is_some_and(|tag| !allowed.contains(tag));
             let is_two = self.makes(if field < 2 { Other::FirstHeadIsTwo } else { Other::TrailingByteIsTwo });
             return Err(if wrong_tag && is_two { 2 } else { 1 });
@@ -185,7 +241,9 @@ impl Wrong {
             self.room(net, tag)?;
         }
         if missing {
-            return Err(1);
+            let vias = rest[3..].chunks_exact(6).map(|layer| layer[4] as i64 * 256 + layer[5] as i64);
+            let seen = tag == 7 && vias.into_iter().any(|via| via > NUMBERS[VIA].3);
+            return Err(if seen && self.edition_slip() == Some(Edition::BeforePayload) { 3 } else { 1 });
         }
         let cursor = Cursor { left: &rest[3..3 + length], bad: false, mistake: self.mistake };
         *rest = &rest[3 + length..];
@@ -195,7 +253,7 @@ impl Wrong {
     fn head(&self, net: &Net, field: usize, tag: u8, length: usize) -> Result<(), u8> {
         let layers = net.layers.len();
         let fits = match (field, tag) {
-            (0, 1) => self.layers_fit(length),
+            (0, _) => self.is_second(tag, length).is_some(),
             (1, 2) => length == 16,
             (2.., 3) => length == 4 + 4 * layers,
             (2.., 5) if self.makes(Other::SinkLength) && length == 4 + 4 * layers => true,
@@ -204,7 +262,7 @@ impl Wrong {
         };
         if fits {
             Ok(())
-        } else if (field, tag) == (0, 1) && self.makes(Other::LayersLengthIsThree) {
+        } else if field == 0 && [1, 7].contains(&tag) && self.makes(Other::LayersLengthIsThree) {
             Err(3)
         } else {
             Err(2)
@@ -217,13 +275,95 @@ impl Wrong {
         (4..=most).contains(&length) && (length % 4 == 0 || self.makes(Other::LayersRounded))
     }
 
-    fn read_layers(&self, net: &mut Net, cursor: &mut Cursor) {
-        while cursor.left.len() >= 4 {
-            let bad_before = cursor.bad;
-            net.layers.push((cursor.number(0), cursor.number(1)));
-            if cursor.left.is_empty() && self.makes(Other::LastLayerUnchecked) {
-                cursor.bad = bad_before;
+    fn vias_fit(&self, length: usize) -> bool {
+        let slip = self.edition_slip();
+        let (least, most) = match slip {
+            Some(Edition::SixRefused) => (12, 96),
+            Some(Edition::NoneAccepted) => (0, 96),
+            Some(Edition::Above64Refused) => (6, 64),
+            Some(Edition::SixteenRefused) => (6, 90),
+            Some(Edition::SeventeenAccepted) => (6, 102),
+            _ => (6, 96),
+        };
+        let step = match slip {
+            Some(Edition::Rounded) => 1,
+            Some(Edition::MultipleOf2) => 2,
+            _ => 6,
+        };
+        (least..=most).contains(&length) && length % step == 0
+    }
+
+    /// Is a layers field with this tag and length of the second edition? None if there is no such field.
+    fn is_second(&self, tag: u8, length: usize) -> Option<bool> {
+        let as_first = || self.layers_fit(length).then_some(false);
+        let as_second = || self.vias_fit(length).then_some(true);
+        match (tag, self.edition_slip()) {
+            (1, Some(Edition::FirstRefused)) | (7, Some(Edition::SecondRefused)) => None,
+            (1, Some(Edition::FirstAsSecond)) => as_second(),
+            (7, Some(Edition::SecondAsFirst)) => as_first(),
+            (1, Some(Edition::FirstOf6)) => as_first().or_else(as_second),
+            (7, Some(Edition::SecondOf4)) => as_second().or_else(as_first),
+            (1, Some(Edition::ByLength)) => as_first().and_then(|_| as_second().or_else(as_first)),
+            (7, Some(Edition::ByLength1)) => as_second().and_then(|_| as_first().or_else(as_second)),
+            (6, Some(Edition::Tag6)) | (8, Some(Edition::Tag8)) | (15, Some(Edition::Tag15)) | (7, _) => as_second(),
+            (1, _) => as_first(),
+            _ => None,
+        }
+    }
+
+    fn read_layers(&self, net: &mut Net, tag: u8, cursor: &mut Cursor) {
+        net.second = self.is_second(tag, cursor.left.len()) == Some(true);
+        let width = if net.second { 6 } else { 4 };
+        // Which of a layer's numbers is its via.
+        let place = match self.edition_slip() {
+            _ if !net.second => None,
+            Some(Edition::ViaFirst) => Some(0),
+            Some(Edition::ViaBetween) => Some(1),
+            _ => Some(2),
+        };
+        while cursor.left.len() >= width {
+            let (layer, is_last) = (net.layers.len(), cursor.left.len() < 2 * width);
+            let (mut units, mut via) = (vec![], 0);
+            for number in 0..width / 2 {
+                let bad_before = cursor.bad;
+                if place == Some(number) {
+                    via = cursor.via(layer, is_last);
+                } else {
+                    units.push(cursor.number(units.len()));
+                    cursor.bad &= bad_before || !(is_last && self.makes(Other::LastLayerUnchecked));
+                }
             }
+            net.layers.push((units[0], units[1]));
+            net.vias.push(via);
+            net.bad_via |= via > NUMBERS[VIA].3;
+        }
+        self.keep_vias(net);
+    }
+
+    /// What is made of the vias that were read.
+    fn keep_vias(&self, net: &mut Net) {
+        let Some(slip) = self.edition_slip() else { return };
+        let layers = net.layers.len();
+        if net.second {
+            match slip {
+                Edition::OfNext => net.vias.rotate_left(1.min(layers)),
+                Edition::OfLayer0 => net.vias = vec![net.vias[0]; layers],
+                Edition::OfLastLayer => net.vias = vec![net.vias[layers - 1]; layers],
+                Edition::Stale => LAST_VIAS.set(net.vias.clone()),
+                _ => {}
+            }
+            return;
+        }
+        for layer in 0..layers {
+            net.vias[layer] = match slip {
+                Edition::FirstHas1 => 1,
+                Edition::FirstHas1OnLast => (layer + 1 == layers) as i64,
+                Edition::FirstHasResistance => net.layers[layer].0,
+                Edition::FirstHasCapacitance => net.layers[layer].1,
+                Edition::FirstHasNext => net.layers.get(layer + 1).map_or(0, |next| next.0),
+                Edition::Stale => LAST_VIAS.with_borrow(|vias| vias.get(layer).copied().unwrap_or(0)),
+                _ => 0,
+            };
         }
     }
 

@@ -1,6 +1,7 @@
-//! The report over a block. Its nets are planned without a mistake: those of planning are for its own calls to show.
+//! The report over a block. Its nets are planned without a mistake: those of planning are for its own calls to show. But
+//! that the nets of a block may have vias is for the report to show.
 
-use super::mistakes::{Block, Mistake};
+use super::mistakes::{Block, Call, Edition, Mistake, Timing};
 use super::reading::{Net, STEINER};
 use super::{low_bits, Wrong, PLANNER};
 use crate::c_calls::Totals;
@@ -98,7 +99,8 @@ impl Wrong {
         let faulty = match self.slip() {
             Some(Block::NoBytesRefused | Block::NoBytesEnds) => payload.is_empty(),
             Some(Block::NetLengthSigned) => payload.len() >= 0x8000,
-            Some(Block::LongNetRefused) => payload.len() > 20_483,
+            Some(Block::LongNetRefused) => payload.len() > 20_515,
+            Some(Block::LongerThanTag1Refused) => payload.len() > 20_483,
             Some(Block::UnreadableRefused) => PLANNER.read(payload).is_err(),
             _ => false,
         };
@@ -144,10 +146,19 @@ impl Wrong {
         }
     }
 
+    /// Makes no mistake, but for these.
+    fn planner(&self) -> Wrong {
+        match self.slip() {
+            Some(Block::WithoutVias) => Wrong { mistake: Mistake::Timing(Call::Plan, Timing::NoVias) },
+            Some(Block::SecondEditionRefused) => Wrong { mistake: Mistake::Edition(Edition::SecondRefused) },
+            _ => PLANNER,
+        }
+    }
+
     /// One net planned. By mistake a refused one adds something too: all its stages on layer 0.
     fn told(&self, bytes: &[u8], table: &mut [i64], buffer: &mut [u8]) -> Told {
         let (p, q) = self.share();
-        let answer = PLANNER.plan(bytes, p, q, table, buffer);
+        let answer = self.planner().plan(bytes, p, q, table, buffer);
         let mut told = Told { refusal: answer.refusal, ..Default::default() };
         let Ok(net) = PLANNER.read(bytes) else { return told };
         let slips = if answer.refusal == 12 {

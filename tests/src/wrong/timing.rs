@@ -1,7 +1,7 @@
 //! The stages of a net, their delays, and the cost and slack of a plan.
 
 use super::mistakes::{Call, Mistake, Timing};
-use super::reading::{Net, BUFFER};
+use super::reading::{Net, Node, BUFFER};
 use super::{low_bits, Wrong};
 
 /// The end of a stage's wire: a sink's required time, or the number of the stage below; and the delay for each layer.
@@ -112,7 +112,7 @@ impl Timed {
         let mut below = vec![0; nodes.len()];
         let shown = |node: usize, below: &[i64]| {
             if nodes[node].is_terminal() {
-                nodes[node].capacitance
+                nodes[node].capacitance + if self.makes(Timing::ViaInInput) { net.vias[layer] } else { 0 }
             } else {
                 below[node]
             }
@@ -120,7 +120,7 @@ impl Timed {
         for node in (1..nodes.len()).rev() {
             let parent = nodes[node].parent;
             if !(self.makes(Timing::SecondChildUnseen) && nodes[parent].children[0] != node) {
-                below[parent] += nodes[node].length * net.layers[layer].1 + shown(node, &below);
+                below[parent] += self.wire(net, node, layer) + shown(node, &below);
             }
             if self.makes(Timing::Load29) {
                 below[parent] = low(below[parent], 29);
@@ -132,9 +132,16 @@ impl Timed {
             let own_input = if self.makes(Timing::OwnInputInLoad) { nodes[parent].capacitance } else { 0 };
             let root = nodes[parent].is_root();
             let above = if root { self.gate(net, parent, below[parent] + own_input) } else { delay[parent] };
-            delay[node] = self.rounded(above + self.edge(net, node, layer, shown(node, &below)));
+            let climbs = Climbs { timed: self, net, layer, below: &below };
+            let climb = climbs.above(node) + climbs.at(node);
+            delay[node] = self.rounded(above + self.edge(net, node, layer, shown(node, &below)) + climb);
         }
         delay
+    }
+
+    fn wire(&self, net: &Net, node: usize, layer: usize) -> i64 {
+        let via = if self.makes(Timing::ViaInWire) { net.vias[layer] } else { 0 };
+        net.nodes[node].length * net.layers[layer].1 + via
     }
 
     /// The same with loads along the path to the node alone.
@@ -147,7 +154,10 @@ impl Timed {
                 load += net.nodes[at].length * net.layers[layer].1;
                 at = net.nodes[at].parent;
             }
-            delay[node] += self.gate(net, at, load);
+            delay[node] += self.gate(net, at, load) + 2 * net.vias[layer] * load;
+            if net.nodes[node].is_terminal() {
+                delay[node] += 2 * net.vias[layer] * net.nodes[node].capacitance;
+            }
         }
         delay
     }
@@ -166,7 +176,8 @@ impl Timed {
     fn edge(&self, net: &Net, node: usize, layer: usize, load: i64) -> i64 {
         let (length, (unit_r, unit_c)) = (net.nodes[node].length, net.layers[layer]);
         let factor = if self.makes(Timing::EdgeLoadOnce) { 1 } else { 2 };
-        let (r, c) = (length * unit_r, length * unit_c);
+        let via = if self.makes(Timing::ViaInEdges) { net.vias[layer] } else { 0 };
+        let (r, c) = (length * unit_r + via, length * unit_c);
         match self.slip {
             Some(Timing::EdgeProduct40) => low(r * c, 40) + r * factor * load,
             Some(Timing::EdgeDelay48) => low(r * (c + factor * load), 48),
@@ -198,6 +209,137 @@ impl Timed {
 
     pub fn cost(&self, plan: &[usize]) -> i64 {
         self.stages.iter().zip(plan).map(|(stage, &layer)| stage.cost[layer]).sum()
+    }
+}
+
+/// The vias of a net on one layer, with the load below each node.
+struct Climbs<'a> {
+    timed: &'a Timed,
+    net: &'a Net,
+    layer: usize,
+    below: &'a [i64],
+}
+
+impl Climbs<'_> {
+    fn node(&self, node: usize) -> &Node {
+        &self.net.nodes[node]
+    }
+
+    fn is_empty(&self, node: usize) -> bool {
+        self.node(node).length == 0
+    }
+
+    /// 2 × via resistance × load.
+    fn pays(&self, load: i64) -> i64 {
+        let via = self.net.vias[self.layer];
+        match self.timed.slip {
+            Some(Timing::NoVias) => 0,
+            Some(Timing::ViaTimesUnit) => 2 * via * self.net.layers[self.layer].0 * load,
+            Some(Timing::ViaProduct32) => low(2 * via * load, 32),
+            Some(Timing::ViaProduct40) => low(2 * via * load, 40),
+            Some(Timing::ViaSigned32) => (2 * via * load) as i32 as i64,
+            _ => 2 * via * load,
+        }
+    }
+
+    /// Once, where the edge above a node begins at the root of its stage.
+    fn above(&self, node: usize) -> i64 {
+        let parent = self.node(node).parent;
+        if self.node(parent).is_root() {
+            return self.root(parent);
+        }
+        match self.timed.slip {
+            Some(Timing::RootViaForEachEdge) => self.pays(self.below[self.root_above(node)]),
+            Some(Timing::ViaAboveEachEdge) => self.pays(self.below[parent]),
+            _ => 0,
+        }
+    }
+
+    fn root_above(&self, node: usize) -> usize {
+        let parent = self.node(node).parent;
+        if self.node(parent).is_root() {
+            parent
+        } else {
+            self.root_above(parent)
+        }
+    }
+
+    /// At a root.
+    fn root(&self, root: usize) -> i64 {
+        let (children, own, load) = (&self.node(root).children, self.node(root).capacitance, self.below[root]);
+        let pays = self.pays(load);
+        match self.timed.slip {
+            Some(Timing::NoRootVia | Timing::RootViaOwnWay) => 0,
+            Some(Timing::RootViaOnce) => pays / 2,
+            Some(Timing::RootViaOfDriver | Timing::RootByUpperStage) if root != 0 => 0,
+            Some(Timing::RootViaOfBuffers) if root == 0 => 0,
+            // The driver has no input capacitance.
+            Some(Timing::PinByLowerStage | Timing::PinByBothStages) => pays + self.pays(own),
+            Some(Timing::RootViaOwnInput) => self.pays(load + own),
+            Some(Timing::TerminalsOnEveryWay) => pays + self.pays(self.inputs_below(root)),
+            Some(Timing::RootViaForEachChild) => children.len() as i64 * pays,
+            Some(Timing::RootViaFirstChild) => self.pays(load - self.of_second(root)),
+            Some(Timing::RootViaEmptyEdge) if children.iter().all(|&child| self.is_empty(child)) => 0,
+            _ => pays,
+        }
+    }
+
+    /// The load of a root's second child, if it has one.
+    fn of_second(&self, root: usize) -> i64 {
+        let second = self.node(root).children.get(1);
+        second.map_or(0, |&child| {
+            let shown = if self.node(child).is_terminal() { self.node(child).capacitance } else { self.below[child] };
+            self.timed.wire(self.net, child, self.layer) + shown
+        })
+    }
+
+    /// The input capacitances of the terminals below a node.
+    fn inputs_below(&self, node: usize) -> i64 {
+        let input = |&child: &usize| {
+            if self.node(child).is_terminal() {
+                self.node(child).capacitance
+            } else {
+                self.inputs_below(child)
+            }
+        };
+        self.node(node).children.iter().map(input).sum()
+    }
+
+    /// The wire between a node and the root of the stage that it ends.
+    fn way(&self, node: usize) -> i64 {
+        let parent = self.node(node).parent;
+        let above = if self.node(parent).is_root() { 0 } else { self.way(parent) };
+        above + self.timed.wire(self.net, node, self.layer)
+    }
+
+    /// At a node, for its own pin.
+    fn at(&self, node: usize) -> i64 {
+        let record = self.node(node);
+        if !record.is_terminal() {
+            let pays = self.timed.makes(Timing::ViaAtSteinerPoints);
+            return if pays { self.pays(self.below[node]) } else { 0 };
+        }
+        let is_buffer = record.tag == BUFFER;
+        let pays = self.pays(record.capacitance);
+        let above = self.node(record.parent);
+        match self.timed.slip {
+            Some(Timing::NoTerminalVia | Timing::TerminalsOnEveryWay) => 0,
+            Some(Timing::TerminalViaOnce) => pays / 2,
+            Some(Timing::TerminalViaOfSinks | Timing::PinByLowerStage) if is_buffer => 0,
+            Some(Timing::TerminalViaOfBuffers) if !is_buffer => 0,
+            Some(Timing::RootByUpperStage | Timing::TerminalViaLoadBelow) if is_buffer => {
+                let own = if self.timed.makes(Timing::RootByUpperStage) { pays } else { 0 };
+                own + self.pays(self.below[node])
+            }
+            Some(Timing::RootViaOwnWay) => pays + self.pays(self.way(node) + record.capacitance),
+            Some(Timing::TerminalViaWithWire) => {
+                self.pays(record.capacitance + self.timed.wire(self.net, node, self.layer))
+            }
+            Some(Timing::TerminalViaSecondChild) if above.children[0] != node => 0,
+            Some(Timing::TerminalViaAtRoot) if above.is_root() => 0,
+            Some(Timing::TerminalViaEmptyEdge) if self.is_empty(node) => 0,
+            _ => pays,
+        }
     }
 }
 

@@ -10,7 +10,7 @@ enum-known-gate : tie.Need-enum-known-gate
 enum-known-gate c = search needs
 
 gate-delay-requires : tie.Need-gate-delay-requires
-gate-delay-requires c κs = let s = c .before .before .before in let g = rw (c .before .gate .given .1) at (s .pre .0) in (g .0, s .pre .1, g .1)
+gate-delay-requires c κs = let s = c .before .before .before in let g = rw (c .before .gate .given .1) at (s .pre .0) in (g .0, s .pre .1, s .pre .2, g .1)
 
 enum-told : tie.Need-enum-told
 enum-told c = search needs

@@ -1,21 +1,23 @@
 -- `read` is right: it meets the faults of the layers first, in the definition's order, and what follows them begins where they end.
 use borrow.Author.Needs.{needs}
 use mathlib.Core.Path.{_≡_, sym, ap, _∙_}
-use Prim.Native.Nat.{_*_, _≤_}
+use Prim.Native.Nat.{ℕ, _+_, _-_, _/_}
 use native.Mathlib.Omega.{arith}
 use borrow.Author.Tests.{not-true, not-false}
-use Rattle.rules.specs.Bytes.{Field, maxLayers, dueLayers}
+use Rattle.rules.specs.Bytes.{Field, layerSize, dueLayers}
 use Rattle.rules.specs.Reading.{field, accept}
+use Rattle.facts.specs.Layers.{LayersHeld, layers-held}
 use Rattle.fields.specs.Fields.{foundField, foundRefusal}
-use Rattle.fields.proofs.Laws.{Inside, field-inside}
+use Rattle.fields.proofs.Laws.{Inside, field-inside, first-and-rest}
 use Rattle.reader.proofs.Stored.{rows-kept}
-use Rattle.reader.proofs.Whole.{layers-size, read-1, read-2, read-3}
+use Rattle.reader.proofs.Whole.{read-1, read-2, read-3}
 use Rattle.reader.proofs.read.Statement.{statement}
 use Rattle.reader.proofs.read.Tie as tie
 use Rattle.reader.proofs.read.Reads as reads
 use Rattle.reader.proofs.read.Lts as lts
 use Rattle.fields.proofs.field_at.Reads as field-at-reads
 use Rattle.fields.proofs.found_refusal.Reads as found-refusal-reads
+use Rattle.fields.proofs.layer_size.Reads as layer-size-reads
 use Rattle.reader.proofs.rest_from.Reads as rest-from-reads
 use Rattle.words.proofs.put_layers.Reads as put-layers-reads
 
@@ -33,8 +35,15 @@ known c = sym (c .before .before .before .field-at .ensures) ∙ ap foundField (
 inside : (c : tie.After-known-told) → Inside dueLayers (start c .args .net .now) 0 (taken c)
 inside c = field-inside _ _ _ (known c)
 
-size : (c : tie.After-known-told) → taken c .size ≤ 4 * maxLayers
-size c = layers-size _ _ (inside c .allowed)
+held : (c : tie.After-known-told) → LayersHeld (layerSize (taken c .tag)) (taken c .size)
+held c = layers-held _ _ (inside c .allowed)
+
+-- the layers that it holds
+number : (c : tie.After-layer-size)
+    → 1 + (taken (c .before) .size - c .layer-size .result) / c .layer-size .result ≡ taken (c .before) .size / layerSize (taken (c .before) .tag)
+number c =
+    ap (λ (w : ℕ). 1 + (taken (c .before) .size - w) / w) (c .layer-size .ensures) ∙
+    first-and-rest (taken (c .before) .tag) (taken (c .before) .size) (held (c .before) .long)
 
 field-at-requires : tie.Need-field-at-requires
 field-at-requires c κs = search needs
@@ -53,29 +62,46 @@ returns c =
     read-1 _ _ _ (c .found-refusal .ensures ∙ ap foundRefusal (c .before .enum-told .given .1))
     (sym (c .before .before .before .field-at .ensures) ∙ ap foundField (c .before .enum-told .given .1))
 
+layer-size-requires : tie.Need-layer-size-requires
+layer-size-requires c κs = search needs
+
+sub-layers : tie.Need-sub-layers
+sub-layers c = omega (arith, held (c .before) .long, c .layer-size .ensures)
+
+div-layers : tie.Need-div-layers
+div-layers c = omega (arith, held (c .before) .units, c .layer-size .ensures)
+
+add-layers : tie.Need-add-layers
+add-layers c = omega (arith, number c, held (c .before) .few)
+
 put-layers-requires : tie.Need-put-layers-requires
 put-layers-requires c κs =
-    let t = inside (c .before) in
-    let n = size (c .before) in
-    (omega arith, omega arith, omega (arith, c .before .before .before .before .before .before .before .pre .some))
+    let t = inside (c .before .before) in
+    let n = held (c .before .before) in (
+      omega (arith, number (c .before), n .few),
+      rw (number (c .before)) (omega (arith, t .ends, n .whole)),
+      omega (arith, c .before .before .before .before .before .before .before .before .pre .some),
+    )
 
 same-length : tie.Need-same-length
 same-length c = search needs
 
 returns-2 : tie.Need-returns-2
-returns-2 c = read-2 _ _ _ (known (c .before .before .before .before .before)) (c .before .before .before .put-layers .ensures) (not-true _ (c .if1 .taken))
+returns-2 c =
+    read-2 _ _ _ (known (c .before .before .before .before .before .before)) (number (c .before .before .before .before .before))
+    (c .before .before .before .put-layers .ensures) (not-true _ (c .if1 .taken))
 
 add-rest-from : tie.Need-add-rest-from
-add-rest-from c = let t = inside (c .before .before .before .before .before) in omega arith
+add-rest-from c = let t = inside (c .before .before .before .before .before .before) in omega arith
 
 rest-from-requires : tie.Need-rest-from-requires
 rest-from-requires c κs =
-    let t = inside (c .before .before .before .before .before .before) in
-    let n = size (c .before .before .before .before .before .before) in (
+    let t = inside (c .before .before .before .before .before .before .before) in
+    let n = held (c .before .before .before .before .before .before .before) in (
+      omega (arith, number (c .before .before .before .before .before .before), n .few),
       omega arith,
-      omega arith,
-      rows-kept (c .before .before .before .before .before .before .before .before .before .before .before .before .pre)
-          (c .before .before .before .before .put-layers .kept .1 .1 .1 .0),
+      rows-kept (c .before .before .before .before .before .before .before .before .before .before .before .before .before .pre)
+          (c .before .before .before .before .put-layers .kept .1 .1 .1 .1 .0),
     )
 
 same-length-2 : tie.Need-same-length-2
@@ -83,7 +109,8 @@ same-length-2 c = search needs
 
 returns-3 : tie.Need-returns-3
 returns-3 c =
-    read-3 _ _ _ (known (c .before .before .before .before .before .before .before .before .before))
+    read-3 _ _ _ (known (c .before .before .before .before .before .before .before .before .before .before)) (number
+    (c .before .before .before .before .before .before .before .before .before))
     (c .before .before .before .before .before .before .before .put-layers .ensures) (not-false _ (c .before .before .before .before .if1 .left))
     (c .before .before .rest-from .ensures)
 
@@ -96,6 +123,10 @@ read-spec =
     enum-told
     found-refusal-requires
     returns
+    layer-size-requires
+    sub-layers
+    div-layers
+    add-layers
     put-layers-requires
     same-length
     returns-2

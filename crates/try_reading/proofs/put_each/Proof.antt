@@ -10,10 +10,10 @@ use Rattle.try_reading.proofs.put_each.Lts as lts
 use Rattle.try_reading.proofs.put.Reads as put-reads
 
 abbrev Inv-loop : tie.InvT-loop
-Inv-loop net₀ at times x next₀ k₀ net next k = length net ≡ length net₀
+Inv-loop net₀ at times width x next₀ k₀ net next k = length net ≡ length net₀
 
 abbrev μ-loop : tie.MeasureT-loop
-μ-loop net₀ at times x next₀ k₀ net next k = times - k
+μ-loop net₀ at times width x next₀ k₀ net next k = times - k
 
 loop-holds : tie.Need-loop-holds Inv-loop μ-loop
 loop-holds c = search needs

@@ -1,0 +1,3 @@
+pub mod WithoutVias
+pub mod Editions
+pub mod Twins

@@ -1,0 +1,1 @@
+// No code: that a file of the first edition answers as before vias stands in specs/.
