@@ -78,7 +78,7 @@ fn accepted<T>(refusal: u8, answer: T) -> Result<T, Refusal> {
     }
 }
 
-/// Reads a net: its counts, or the first fault met (1 to 6).
+/// Reads a net, whose layers have tag 1, or tag 7 and a via resistance each: its counts, or the first fault met (1 to 6).
 pub fn check(net: &[u8]) -> Result<Counts, Refusal> {
     let mut found = Counts::default();
     let Counts { nodes, stages, layers } = &mut found;
@@ -89,7 +89,7 @@ pub fn check(net: &[u8]) -> Result<Counts, Refusal> {
     accepted(refusal, found)
 }
 
-/// Judges a plan, one layer number a stage. Refusals: 1 to 6, 7, 8.
+/// Judges a plan, one layer number a stage; vias are counted where the net has them. Refusals: 1 to 6, 7, 8.
 pub fn judge(net: &[u8], plan: &[u8]) -> Result<Judged, Refusal> {
     let mut found = Judged::default();
     let Judged { cost, slack } = &mut found;

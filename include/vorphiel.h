@@ -33,8 +33,8 @@ extern "C" {
  * with 1 to 6: the first fault met. */
 uint8_t vorphiel_check(const uint8_t *net, size_t net_len, uint64_t *nodes, uint64_t *stages, uint64_t *layers);
 
-/* Judges a plan, one layer number a stage. Accepted: the plan's exact cost, and its exact slack in ticks, which may be negative.
- * Refused with 1 to 6 for the net, then 7, then 8. */
+/* Judges a plan, one layer number a stage. Accepted: the plan's exact cost, and its exact slack in ticks, which may be negative; vias are counted where the net
+ * has them. Refused with 1 to 6 for the net, then 7, then 8. */
 uint8_t vorphiel_judge(const uint8_t *net, size_t net_len, const uint8_t *plan, size_t plan_len, uint64_t *cost, int64_t *slack);
 
 /* Plans a net of s stages with share p/q: finds a plan that meets timing and costs at most (1 + p/q) times as much as the cheapest that does. A share of 0

@@ -3,7 +3,7 @@
 use mathlib.Core.Path.{_≡_, refl, ap, ap₂, sym, _∙_, fun-ext}
 use mathlib.Core.Bool.{Bool, true, false, _&&_, _||_, and-true}
 use mathlib.Core.Logic.{_⊎_, inl, inr}
-use mathlib.Core.List.{List, [], _∷_, map}
+use mathlib.Core.List.{List, [], _∷_, map, List·Memᴰ}
 use Prim.Native.Nat.{ℕ, zero, suc, _+_, _*_, _/_, _%_}
 use native.Mathlib.Omega.{arith}
 use lib.Dec.{leb, ltb, eqb}
@@ -21,14 +21,18 @@ use Rattle.rules.specs.Timing.{terminalTime, requiredFrom, required, slack, mee
 use Rattle.rules.specs.Grain.{meetingPlans, leastRounded, qualifies, grainExponent, chosen, columns}
 use Rattle.rules.specs.Reading.{Answer, accept, refuse, _>>=_, _>>_, _unless_, field, nodesFrom, isWhole, readTo, read, check}
 use Rattle.rules.specs.Judging.{judge}
-use Rattle.rules.specs.Planning.{maxShare, Choice, taken, plan}
+use Rattle.rules.specs.Planning.{maxShare, Choice, taken, planned, plan}
+use Rattle.rules.specs.Program.{programTable, programRoom, programPlanned, programLine}
+use Rattle.rules.specs.Block.{block, totals, report}
 use Rattle.facts.specs.Answers.{accept-injective, then-accepted, unless-accepted}
 use Rattle.facts.specs.Fields.{field-there}
 use Rattle.facts.specs.Layers.{NoVias}
 use Rattle.editions.specs.WithoutVias.{gateDelayWithout, wireDelayWithout, requiredFromWithout, requiredWithout, slackWithout}
 use Rattle.editions.specs.WithoutVias.{meetsBy, meetingBy, leastBy, qualifiesBy, grainBy, chosenBy, neededBy}
-use Rattle.editions.specs.WithoutVias.{checkBy, judgedBy, judgedAnswer, judgeBy, plannedBy, plannedAnswer, planBy, check-is, judge-is, plan-is}
+use Rattle.editions.specs.WithoutVias.{checkBy, judgedBy, judgedAnswer, judgeBy, plannedBy, plannedAnswer, planBy, lineBy, reportBy}
+use Rattle.editions.specs.WithoutVias.{check-is, judge-is, planned-is, plan-is, line-is, report-is}
 use Rattle.editions.specs.WithoutVias.{dueLayersFirst, layerFirst, layersFirst, isLayerFirst, readFirst, checkFirst, judgeFirst, planFirst}
+use Rattle.editions.specs.WithoutVias.{programPlannedFirst, programLineFirst, reportFirst}
 
 -- Such a net has the delays, required times, slacks, meeting plans, V(k), grain and plans of the rule without vias.
 pub record TimedWithout (n : Net) : Type 0 where
@@ -233,22 +237,33 @@ module _ (f g : Net → List ℕ → ℤ) (a : Answer Net) (same : (n : Net) →
       go (accept n) h = ap (λ (s : List ℕ → ℤ). plannedBy (λ m. s) (accept n) p q entries room) (h n refl)
       go (refuse r) h = refl
 
+  -- What rests on the choice and on the slacks of the net chosen for, by both.
+  choice-timed : {B : Type 0} (h : (Net → List ℕ → ℤ) → Answer Choice → B) → ((c : Choice) → f (c .net) ≡ g (c .net) → h f (accept c) ≡ h g (accept c))
+      → ((r : ℕ) → h f (refuse r) ≡ h g (refuse r)) → (p q entries room : ℕ) → h f (plannedBy f a p q entries room) ≡ h g (plannedBy g a p q entries room)
+  choice-timed h each none p q entries room = ap (h f) (planned-timed p q entries room) ∙ go (plannedBy g a p q entries room)
+      (planned-net g a p q entries room)
+    where
+      go : (b : Answer Choice) → ((c : Choice) → b ≡ accept c → a ≡ accept (c .net)) → h f b ≡ h g b
+      go (accept c) is = each c (same (c .net) (is c refl))
+      go (refuse r) is = none r
+
   plan-timed : (p q : ℕ) (table : List ℤ) (buffer : List ℕ) → planBy f a p q table buffer ≡ planBy g a p q table buffer
   plan-timed p q table buffer =
-      let settled = plannedBy g a p q (length table) (length buffer) in
-      ap (plannedAnswer f table buffer) (planned-timed p q (length table) (length buffer)) ∙ go settled (planned-net g a p q (length table) (length buffer))
-    where
-      go : (b : Answer Choice) → ((c : Choice) → b ≡ accept c → a ≡ accept (c .net)) → plannedAnswer f table buffer b ≡ plannedAnswer g table buffer b
-      go (accept c) h = ap (λ (s : List ℕ → ℤ). plannedAnswer (λ m. s) table buffer (accept c)) (same (c .net) (h c refl))
-      go (refuse r) h = refl
+      choice-timed (λ s. plannedAnswer s table buffer) (λ c e. ap (λ (s : List ℕ → ℤ). plannedAnswer (λ m. s) table buffer (accept c)) e) (λ r. refl) p q
+      (length table) (length buffer)
 
--- A file is read, checked, judged and planned as before vias, and a net that it holds has none.
+  line-timed : (p q entries room : ℕ) → lineBy f (plannedBy f a p q entries room) ≡ lineBy g (plannedBy g a p q entries room)
+  line-timed = choice-timed lineBy (λ c e. ap (λ (s : List ℕ → ℤ). lineBy (λ m. s) (accept c)) e) (λ r. refl)
+
+-- A file is read, checked, judged and planned as before vias, by the program too, and a net that it holds has none.
 pub record AsBefore (bs : List ℕ) : Type 0 where
   pub read-same : read bs ≡ readFirst bs
   pub no-vias : (n : Net) → read bs ≡ accept n → NoVias n
   pub check-same : check bs ≡ checkFirst bs
   pub judge-same : (x : List ℕ) → judge bs x ≡ judgeFirst bs x
   pub plan-same : (p q : ℕ) (table : List ℤ) (buffer : List ℕ) → plan bs p q table buffer ≡ planFirst bs p q table buffer
+  pub program-same : programPlanned bs ≡ programPlannedFirst bs
+  pub line-same : programLine bs ≡ programLineFirst bs
 
 -- So is every file that does not open with tag 7,
 pub before-vias : (bs : List ℕ) → (number bs 0 1 ≡ viaLayersTag → ⊥) → AsBefore bs
@@ -262,11 +277,28 @@ before-vias bs old =
       plan-same = λ p q table buffer.
           plan-is bs p q table buffer ∙ ap (λ (a : Answer Net). planBy slack a p q table buffer) e ∙ plan-timed slack slackWithout
           (readFirst bs) same p q table buffer;
+      program-same = by-reading 1 4 programTable programRoom ∙ planned-timed slack slackWithout (readFirst bs) same 1 4 programTable programRoom;
+      line-same =
+          line-is bs ∙ ap (lineBy slack) (by-reading 1 4 programTable programRoom) ∙ line-timed slack slackWithout (readFirst bs) same 1 4 programTable
+          programRoom;
     }
   where
+    by-reading : (p q entries room : ℕ) → planned bs p q entries room ≡ plannedBy slack (readFirst bs) p q entries room
+    by-reading p q entries room = planned-is bs p q entries room ∙ ap (λ (a : Answer Net). plannedBy slack a p q entries room) (read-before bs old)
+
     same : (n : Net) → readFirst bs ≡ accept n → slack n ≡ slackWithout n
     same n e = slack-without n (first-no-vias bs n e)
 
 -- and with it every file of the first edition.
 pub first-edition : (bs : List ℕ) → number bs 0 1 ≡ layersTag → AsBefore bs
 first-edition bs first = before-vias bs (λ e. let z : _≡_ {A = ℕ} 1 7 = sym first ∙ e in omega arith)
+
+-- A block none of whose nets opens with tag 7 is reported as before vias.
+pub report-before : (bs : List ℕ)
+    → ((ns : List (List ℕ)) → block bs ≡ accept ns → (m : List ℕ) → List·Memᴰ m ns → number m 0 1 ≡ viaLayersTag → ⊥) → report bs ≡ reportFirst bs
+report-before bs old = report-is bs ∙ go (block bs) old
+  where
+    go : (a : Answer (List (List ℕ))) → ((ns : List (List ℕ)) → a ≡ accept ns → (m : List ℕ) → List·Memᴰ m ns → number m 0 1 ≡ viaLayersTag → ⊥)
+        → reportBy programPlanned a ≡ reportBy programPlannedFirst a
+    go (accept ns) h = ap totals (map-same programPlanned programPlannedFirst ns (λ m i. before-vias m (h ns refl m i) .program-same))
+    go (refuse r) h = refl

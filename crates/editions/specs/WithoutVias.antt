@@ -1,6 +1,6 @@
 -- The rules as they stood before vias (02, wish 5): 01, with the lengths of wish 3. Timing and the layers field stand as they were. What rests on timing and
--- on reading stands once, with both handed in: handed those of today it is today's rules (`check-is`, `judge-is`, `plan-is`), and so nothing else can differ.
-use mathlib.Core.Path.{_≡_, refl}
+-- on reading stands once, with both handed in: handed those of today it is today's rules (`check-is` to `report-is`), and so nothing else can differ.
+use mathlib.Core.Path.{_≡_, refl, ap}
 use mathlib.Core.Bool.{Bool, _&&_}
 use mathlib.Core.Option.{Option}
 use mathlib.Core.List.{List, [], _++_, map, head?}
@@ -12,6 +12,7 @@ use lib.Signed.{leZ}
 use Rattle.laws.specs.Basic.{if_then_else_, from, sum, all, keep, leastOf, lowest, largest, within}
 use Rattle.rules.specs.declared.Checked.{Checked}
 use Rattle.rules.specs.declared.Judged.{Judged}
+use Rattle.rules.specs.declared.Report.{Report}
 use Rattle.rules.specs.Tree.{Layer, Net, stages, root, layerCount, between, terminals, on, areLayers, plans}
 use Rattle.rules.specs.Bytes.{maxUnit, maxLayers, maxLength, maxNodes, layersTag, Field, next, number, dueDriver, driverAt, isDriver}
 use Rattle.rules.specs.Timing.{load, edgeDelay, gateRes, gateIntrinsic, terminalTime, slack, meets, cost}
@@ -19,6 +20,8 @@ use Rattle.rules.specs.Grain.{maxExponent, roundedCost, meetingPlans, leastRoun
 use Rattle.rules.specs.Reading.{Answer, accept, refuse, _>>=_, _>>_, _unless_, field, nodesFrom, isWhole, read, check}
 use Rattle.rules.specs.Judging.{judged, judge}
 use Rattle.rules.specs.Planning.{maxShare, Choice, taken, planned, PlanAnswer, cleared, plan}
+use Rattle.rules.specs.Program.{planLine, refusedLine, programTable, programRoom, programPlanned, programLine}
+use Rattle.rules.specs.Block.{block, totals, noTotals, report}
 
 -- Gate delay of stage t on layer l: 2 × gate resistance × load at the root, plus intrinsic delay (01, Timing rule).
 unfoldable pub gateDelayWithout : Net → ℕ → ℕ → ℕ
@@ -126,6 +129,17 @@ plannedAnswer f table buffer a = elim a [
 abbrev pub planBy : (Net → List ℕ → ℤ) → Answer Net → ℕ → ℕ → List ℤ → List ℕ → PlanAnswer
 planBy f a p q table buffer = plannedAnswer f table buffer (plannedBy f a p q (length table) (length buffer))
 
+-- The program's line, by what planning answers (01, Program).
+abbrev pub lineBy : (Net → List ℕ → ℤ) → Answer Choice → List ℕ
+lineBy f a = elim a [
+  | accept c ↦ planLine (cost (c .net) (c .plan)) (2 ^ c .k) (f (c .net) (c .plan)) (c .plan)
+  | refuse r ↦ refusedLine r
+]
+
+-- The report over a block, by its nets, where f plans each of them (02, wish 2).
+abbrev pub reportBy : (List ℕ → Answer Choice) → Answer (List (List ℕ)) → Report
+reportBy f a = elim a [ accept ns ↦ totals (map f ns) | refuse r ↦ noTotals r ]
+
 -- With today's reading and timing these are today's rules, word for word.
 pub check-is : (bs : List ℕ) → check bs ≡ checkBy (read bs)
 unfolding check
@@ -135,9 +149,21 @@ pub judge-is : (bs x : List ℕ) → judge bs x ≡ judgeBy slack (read bs) x
 unfolding judge judged judgedBy
 judge-is bs x = refl
 
+pub planned-is : (bs : List ℕ) (p q entries room : ℕ) → planned bs p q entries room ≡ plannedBy slack (read bs) p q entries room
+unfolding planned plannedBy meets meetsBy meetingPlans meetingBy leastRounded leastBy qualifies qualifiesBy grainExponent grainBy chosen chosenBy columnsNeeded neededBy
+planned-is bs p q entries room = refl
+
 pub plan-is : (bs : List ℕ) (p q : ℕ) (table : List ℤ) (buffer : List ℕ) → plan bs p q table buffer ≡ planBy slack (read bs) p q table buffer
-unfolding plan planned plannedBy meets meetsBy meetingPlans meetingBy leastRounded leastBy qualifies qualifiesBy grainExponent grainBy chosen chosenBy columnsNeeded neededBy
-plan-is bs p q table buffer = refl
+unfolding plan
+plan-is bs p q table buffer = ap (plannedAnswer slack table buffer) (planned-is bs p q (length table) (length buffer))
+
+pub line-is : (bs : List ℕ) → programLine bs ≡ lineBy slack (programPlanned bs)
+unfolding programLine
+line-is bs = refl
+
+pub report-is : (bs : List ℕ) → report bs ≡ reportBy programPlanned (block bs)
+unfolding report
+report-is bs = refl
 
 -- A layers field has tag 1 and 4 to 64 bytes, a multiple of 4 (01, Net bytes): two bytes each for unit resistance and unit capacitance.
 unfoldable pub dueLayersFirst : ℕ → ℕ → Bool
@@ -175,3 +201,13 @@ judgeFirst bs x = judgeBy slackWithout (readFirst bs) x
 
 abbrev pub planFirst : List ℕ → ℕ → ℕ → List ℤ → List ℕ → PlanAnswer
 planFirst bs p q table buffer = planBy slackWithout (readFirst bs) p q table buffer
+
+-- Planning as the program plans, its line and the report before vias.
+abbrev pub programPlannedFirst : List ℕ → Answer Choice
+programPlannedFirst bs = plannedBy slackWithout (readFirst bs) 1 4 programTable programRoom
+
+abbrev pub programLineFirst : List ℕ → List ℕ
+programLineFirst bs = lineBy slackWithout (programPlannedFirst bs)
+
+abbrev pub reportFirst : List ℕ → Report
+reportFirst bs = reportBy programPlannedFirst (block bs)
