@@ -21,7 +21,7 @@ use Rattle.rules.specs.Timing.{terminalTime, requiredFrom, required, slack, mee
 use Rattle.rules.specs.Grain.{meetingPlans, leastRounded, qualifies, grainExponent, chosen, columns}
 use Rattle.rules.specs.Reading.{Answer, accept, refuse, _>>=_, _>>_, _unless_, field, nodesFrom, isWhole, readTo, read, check}
 use Rattle.rules.specs.Judging.{judge}
-use Rattle.rules.specs.Planning.{maxShare, Choice, taken, planned, plan}
+use Rattle.rules.specs.Planning.{maxShare, Choice, taken, plan}
 use Rattle.rules.specs.Program.{programTable, programRoom, programPlanned, programLine}
 use Rattle.rules.specs.Block.{block, totals, report}
 use Rattle.facts.specs.Answers.{accept-injective, then-accepted, unless-accepted}
@@ -29,8 +29,8 @@ use Rattle.facts.specs.Fields.{field-there}
 use Rattle.facts.specs.Layers.{NoVias}
 use Rattle.editions.specs.WithoutVias.{gateDelayWithout, wireDelayWithout, requiredFromWithout, requiredWithout, slackWithout}
 use Rattle.editions.specs.WithoutVias.{meetsBy, meetingBy, leastBy, qualifiesBy, grainBy, chosenBy, neededBy}
-use Rattle.editions.specs.WithoutVias.{checkBy, judgedBy, judgedAnswer, judgeBy, plannedBy, plannedAnswer, planBy, lineBy, reportBy}
-use Rattle.editions.specs.WithoutVias.{check-is, judge-is, planned-is, plan-is, line-is, report-is}
+use Rattle.editions.specs.WithoutVias.{checkBy, judgedBy, judgedAnswer, judgeBy, plannedBy, plannedAnswer, planBy, programBy, lineBy, reportBy}
+use Rattle.editions.specs.WithoutVias.{check-is, judge-is, plan-is, program-is, line-is, report-is}
 use Rattle.editions.specs.WithoutVias.{dueLayersFirst, layerFirst, layersFirst, isLayerFirst, readFirst, checkFirst, judgeFirst, planFirst}
 use Rattle.editions.specs.WithoutVias.{programPlannedFirst, programLineFirst, reportFirst}
 
@@ -240,8 +240,8 @@ module _ (f g : Net → List ℕ → ℤ) (a : Answer Net) (same : (n : Net) →
   -- What rests on the choice and on the slacks of the net chosen for, by both.
   choice-timed : {B : Type 0} (h : (Net → List ℕ → ℤ) → Answer Choice → B) → ((c : Choice) → f (c .net) ≡ g (c .net) → h f (accept c) ≡ h g (accept c))
       → ((r : ℕ) → h f (refuse r) ≡ h g (refuse r)) → (p q entries room : ℕ) → h f (plannedBy f a p q entries room) ≡ h g (plannedBy g a p q entries room)
-  choice-timed h each none p q entries room = ap (h f) (planned-timed p q entries room) ∙ go (plannedBy g a p q entries room)
-      (planned-net g a p q entries room)
+  choice-timed h each none p q entries room =
+      ap (h f) (planned-timed p q entries room) ∙ go (plannedBy g a p q entries room) (planned-net g a p q entries room)
     where
       go : (b : Answer Choice) → ((c : Choice) → b ≡ accept c → a ≡ accept (c .net)) → h f b ≡ h g b
       go (accept c) is = each c (same (c .net) (is c refl))
@@ -252,10 +252,11 @@ module _ (f g : Net → List ℕ → ℤ) (a : Answer Net) (same : (n : Net) →
       choice-timed (λ s. plannedAnswer s table buffer) (λ c e. ap (λ (s : List ℕ → ℤ). plannedAnswer (λ m. s) table buffer (accept c)) e) (λ r. refl) p q
       (length table) (length buffer)
 
-  line-timed : (p q entries room : ℕ) → lineBy f (plannedBy f a p q entries room) ≡ lineBy g (plannedBy g a p q entries room)
-  line-timed = choice-timed lineBy (λ c e. ap (λ (s : List ℕ → ℤ). lineBy (λ m. s) (accept c)) e) (λ r. refl)
+  line-timed : lineBy f (programBy f a) ≡ lineBy g (programBy g a)
+  line-timed = choice-timed lineBy (λ c e. ap (λ (s : List ℕ → ℤ). lineBy (λ m. s) (accept c)) e) (λ r. refl) 1 4 programTable programRoom
 
--- A file is read, checked, judged and planned as before vias, by the program too, and a net that it holds has none.
+-- A file is read, checked, judged and planned as before vias, by the program too, and a net that it holds has none. (Of planning all but the floor, which no
+-- definition decides: `PlanAnswer`.)
 pub record AsBefore (bs : List ℕ) : Type 0 where
   pub read-same : read bs ≡ readFirst bs
   pub no-vias : (n : Net) → read bs ≡ accept n → NoVias n
@@ -277,14 +278,12 @@ before-vias bs old =
       plan-same = λ p q table buffer.
           plan-is bs p q table buffer ∙ ap (λ (a : Answer Net). planBy slack a p q table buffer) e ∙ plan-timed slack slackWithout
           (readFirst bs) same p q table buffer;
-      program-same = by-reading 1 4 programTable programRoom ∙ planned-timed slack slackWithout (readFirst bs) same 1 4 programTable programRoom;
-      line-same =
-          line-is bs ∙ ap (lineBy slack) (by-reading 1 4 programTable programRoom) ∙ line-timed slack slackWithout (readFirst bs) same 1 4 programTable
-          programRoom;
+      program-same = by-reading ∙ planned-timed slack slackWithout (readFirst bs) same 1 4 programTable programRoom;
+      line-same = line-is bs ∙ ap (lineBy slack) by-reading ∙ line-timed slack slackWithout (readFirst bs) same;
     }
   where
-    by-reading : (p q entries room : ℕ) → planned bs p q entries room ≡ plannedBy slack (readFirst bs) p q entries room
-    by-reading p q entries room = planned-is bs p q entries room ∙ ap (λ (a : Answer Net). plannedBy slack a p q entries room) (read-before bs old)
+    by-reading : programPlanned bs ≡ programBy slack (readFirst bs)
+    by-reading = program-is bs ∙ ap (programBy slack) (read-before bs old)
 
     same : (n : Net) → readFirst bs ≡ accept n → slack n ≡ slackWithout n
     same n e = slack-without n (first-no-vias bs n e)
@@ -293,12 +292,14 @@ before-vias bs old =
 pub first-edition : (bs : List ℕ) → number bs 0 1 ≡ layersTag → AsBefore bs
 first-edition bs first = before-vias bs (λ e. let z : _≡_ {A = ℕ} 1 7 = sym first ∙ e in omega arith)
 
--- A block none of whose nets opens with tag 7 is reported as before vias.
-pub report-before : (bs : List ℕ)
-    → ((ns : List (List ℕ)) → block bs ≡ accept ns → (m : List ℕ) → List·Memᴰ m ns → number m 0 1 ≡ viaLayersTag → ⊥) → report bs ≡ reportFirst bs
+-- None of the nets of a block opens with tag 7.
+abbrev pub NoneOfSecond : Answer (List (List ℕ)) → Type 0
+NoneOfSecond a = (ns : List (List ℕ)) → a ≡ accept ns → (m : List ℕ) → List·Memᴰ m ns → number m 0 1 ≡ viaLayersTag → ⊥
+
+-- Such a block is reported as before vias.
+pub report-before : (bs : List ℕ) → NoneOfSecond (block bs) → report bs ≡ reportFirst bs
 report-before bs old = report-is bs ∙ go (block bs) old
   where
-    go : (a : Answer (List (List ℕ))) → ((ns : List (List ℕ)) → a ≡ accept ns → (m : List ℕ) → List·Memᴰ m ns → number m 0 1 ≡ viaLayersTag → ⊥)
-        → reportBy programPlanned a ≡ reportBy programPlannedFirst a
+    go : (a : Answer (List (List ℕ))) → NoneOfSecond a → reportBy programPlanned a ≡ reportBy programPlannedFirst a
     go (accept ns) h = ap totals (map-same programPlanned programPlannedFirst ns (λ m i. before-vias m (h ns refl m i) .program-same))
     go (refuse r) h = refl

@@ -129,7 +129,11 @@ plannedAnswer f table buffer a = elim a [
 abbrev pub planBy : (Net → List ℕ → ℤ) → Answer Net → ℕ → ℕ → List ℤ → List ℕ → PlanAnswer
 planBy f a p q table buffer = plannedAnswer f table buffer (plannedBy f a p q (length table) (length buffer))
 
--- The program's line, by what planning answers (01, Program).
+-- How the program plans (01, Program),
+abbrev pub programBy : (Net → List ℕ → ℤ) → Answer Net → Answer Choice
+programBy f a = plannedBy f a 1 4 programTable programRoom
+
+-- and its line, by what planning answers.
 abbrev pub lineBy : (Net → List ℕ → ℤ) → Answer Choice → List ℕ
 lineBy f a = elim a [
   | accept c ↦ planLine (cost (c .net) (c .plan)) (2 ^ c .k) (f (c .net) (c .plan)) (c .plan)
@@ -156,6 +160,9 @@ planned-is bs p q entries room = refl
 pub plan-is : (bs : List ℕ) (p q : ℕ) (table : List ℤ) (buffer : List ℕ) → plan bs p q table buffer ≡ planBy slack (read bs) p q table buffer
 unfolding plan
 plan-is bs p q table buffer = ap (plannedAnswer slack table buffer) (planned-is bs p q (length table) (length buffer))
+
+pub program-is : (bs : List ℕ) → programPlanned bs ≡ programBy slack (read bs)
+program-is bs = planned-is bs 1 4 programTable programRoom
 
 pub line-is : (bs : List ℕ) → programLine bs ≡ lineBy slack (programPlanned bs)
 unfolding programLine
@@ -202,9 +209,9 @@ judgeFirst bs x = judgeBy slackWithout (readFirst bs) x
 abbrev pub planFirst : List ℕ → ℕ → ℕ → List ℤ → List ℕ → PlanAnswer
 planFirst bs p q table buffer = planBy slackWithout (readFirst bs) p q table buffer
 
--- Planning as the program plans, its line and the report before vias.
+-- How the program planned, its line and the report before vias.
 abbrev pub programPlannedFirst : List ℕ → Answer Choice
-programPlannedFirst bs = plannedBy slackWithout (readFirst bs) 1 4 programTable programRoom
+programPlannedFirst bs = programBy slackWithout (readFirst bs)
 
 abbrev pub programLineFirst : List ℕ → List ℕ
 programLineFirst bs = lineBy slackWithout (programPlannedFirst bs)
