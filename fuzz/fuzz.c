@@ -949,11 +949,12 @@ static void try_layers(void)
     must(counts.refusal == 1 || layers_refusal(&net) != 0, "layers alone, without fault: not 1 for the driver that is due");
 }
 
-/* An edge: its stage and length, and the input capacitance at its lower end if a terminal is there. */
+/* An edge: its stage and length, where its cost on layer 0 stands, and the input capacitance at its lower end if a terminal is there. */
 struct edge {
     size_t stage;
     uint64_t length, capacitance;
     int to_terminal;
+    struct place cost;
 };
 
 /* The edges of a net that can be read, and how many. An edge is of the stage below its parent; a buffer begins the next stage. */
@@ -970,7 +971,7 @@ static size_t find_edges(const struct net *net, struct edge *edges)
         stage = below_node[read_number(net, &places[0])];
         below_node[node] = net->bytes[at] == 4 ? ++buffers : stage;
         uint64_t capacitance = to_terminal ? read_number(net, &places[2 + layer_count(net)]) : 0;
-        edges[count++] = (struct edge){stage, read_number(net, &places[1]), capacitance, to_terminal};
+        edges[count++] = (struct edge){stage, read_number(net, &places[1]), capacitance, to_terminal, places[2]};
     }
     return count;
 }
@@ -1132,27 +1133,42 @@ static int within_share(struct asked asked, uint64_t cost, uint64_t other)
     return (unsigned __int128)asked.q * cost <= (unsigned __int128)(asked.q + asked.p) * other;
 }
 
-/* Whether the grain g = 2^k can be the scope document's for s stages: the coarsest with q * s * (g - 1) <= p * g * V. What a plan costs rounded to g, times g, is at
- * most its cost c and at least c - s * (g - 1); so without knowing V, the cost bounds g from above, and the floor shows that 2g is too coarse. */
+/* Whether the grain g = 2^k can be the scope document's for s stages: the coarsest with q * s * (g - 1) <= p * g * V(k), where g * V(k) is the floor. Of
+ * V(k + 1) it is known that V(k) <= 2 * V(k + 1) + s; so the floor also shows that 2g is too coarse. */
 static int grain_right(struct asked asked, const struct answer *found, size_t s)
 {
     uint64_t k = found->results[GRAIN_EXPONENT];
     if (k > MOST_K)
         return 0;
-    uint64_t lost = s * ((UINT64_C(1) << k) - 1), lost_next = s * ((UINT64_C(2) << k) - 1);
-    uint64_t floor = found->results[FLOOR], sure = floor < lost_next ? 0 : floor - lost_next;
-    return asked.q * lost <= asked.p * found->results[COST] && (k == MOST_K || asked.q * lost_next > asked.p * sure);
+    uint64_t g = UINT64_C(1) << k, floor = found->results[FLOOR], sure = floor < g * s ? 0 : floor - g * s;
+    return asked.q * s * (g - 1) <= asked.p * floor && (k == MOST_K || asked.q * s * (2 * g - 1) > asked.p * sure);
 }
 
-/* What an accepted plan's results must be to another plan of the net: if that one meets timing, the floor is not above its cost. */
-static void hold_against(struct asked asked, const struct answer *found, const struct answer *judged)
+/* The grain g = 2^k times a plan's rounded cost: each stage's cost divided by g, rounded down. */
+static uint64_t rounded_to_grain(const struct net *net, const uint8_t *plan, uint64_t k)
+{
+    struct edge edges[MOST_NODES];
+    uint64_t costs[MOST_STAGES] = {0}, rounded = 0;
+    for (size_t i = find_edges(net, edges); i > 0; i--) {
+        struct place cost = edges[i - 1].cost;
+        cost.at += plan[edges[i - 1].stage] * cost.width;
+        costs[edges[i - 1].stage] += read_number(net, &cost);
+    }
+    for (size_t i = 0; i < MOST_STAGES; i++)
+        rounded += costs[i] >> k << k;
+    return rounded;
+}
+
+/* What an accepted plan's results must be to another plan of the net: if that one meets timing, its rounded cost is no less than V(k). */
+static void hold_against(const struct net *net, struct asked asked, const struct answer *found, const uint8_t *plan, const struct answer *judged)
 {
     if (judged->refusal != 0 || (int64_t)judged->results[SLACK] < 0)
         return;
     must(found->refusal != 11, "refusal 11, but a plan was judged that meets timing");
     if (found->refusal != 0)
         return;
-    must(found->results[FLOOR] <= judged->results[COST], "the floor is above the cost of a plan that meets timing");
+    uint64_t rounded = rounded_to_grain(net, plan, found->results[GRAIN_EXPONENT]);
+    must(found->results[FLOOR] <= rounded, "the floor is above the grain times the rounded cost of a plan that meets timing");
     must(within_share(asked, found->results[COST], judged->results[COST]), "the plan costs more than the share allows over another that meets timing");
 }
 
@@ -1167,12 +1183,14 @@ static void plan_keeps_promises(const struct net *net, const struct answer *coun
     must((int64_t)found->results[SLACK] >= 0, "the plan found misses timing");
     must(found->results[FLOOR] <= found->results[COST], "the floor is above the cost");
     must(within_share(asked, found->results[COST], found->results[FLOOR]), "the cost is above the floor by more than the share");
-    must(grain_right(asked, found, s), "the grain is not the one that belongs to this share and cost");
+    must(grain_right(asked, found, s), "the grain is not the one that belongs to this share and floor");
+    uint64_t rounded = rounded_to_grain(net, plan, found->results[GRAIN_EXPONENT]);
+    must(found->results[FLOOR] == rounded, "the floor is not the grain times the plan's rounded cost");
     uint8_t neighbour[MOST_STAGES];
     memcpy(neighbour, plan, s);
     neighbour[below(s)] = (uint8_t)below(counts->results[LAYERS]);
     judged = judge_rightly(net, counts, neighbour, s);
-    hold_against(asked, found, &judged);
+    hold_against(net, asked, found, neighbour, &judged);
 }
 
 /* After acceptance: a longer table, or one without the entries beyond the last whole column, gives the same. After 12: a table that is never too short is not. */
@@ -1312,7 +1330,7 @@ static void try_net(void)
     struct asked asked = make_asked(s);
     struct answer found = plan_net(&net, s, asked, found_plan);
     must(planning_refusal_right(&counts, asked, found.refusal), "vorphiel_plan: not the refusal that is due");
-    hold_against(asked, &found, &judged);
+    hold_against(&net, asked, &found, plan, &judged);
     if (found.refusal == 0) {
         planned++;
         planned_long += (uint64_t)has_long_edge(&net);

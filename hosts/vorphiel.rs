@@ -61,7 +61,8 @@ pub struct Judged {
     pub slack: i64,
 }
 
-/// What is said of the plan found: its cost and slack, the exponent of the grain 2^k, and the floor: at most the cost of every plan that meets timing.
+/// What is said of the plan found: its cost and slack, the exponent of the grain 2^k, and the floor, 2^k times the least rounded cost of the plans that meet
+/// timing: at most the cost of every one of them, never above `cost`, and equal to it at share 0.
 #[derive(Clone, Copy, Debug, Default, PartialEq, Eq)]
 pub struct Planned {
     pub cost: u64,

@@ -202,14 +202,10 @@ fn garbage(kind: usize, seed: u64, length: usize) -> Vec<i64> {
 }
 
 /// What is wrong with what a planning call gave and left.
-pub fn faults(case: &Case, asked: &Asked, expected: &Left, found: &Left) -> Vec<String> {
+pub fn faults(asked: &Asked, expected: &Left, found: &Left) -> Vec<String> {
     let mut faults = vec![];
-    let besides_floor = |answer: Planned| Planned { floor: 0, ..answer };
-    if besides_floor(found.answer) != besides_floor(expected.answer) {
+    if found.answer != expected.answer {
         faults.push(String::from("the answer"));
-    }
-    if !floor_permitted(case, asked, expected, found.answer.floor) {
-        faults.push(String::from("the floor"));
     }
     if found.buffer != expected.buffer {
         faults.push(String::from("the plan buffer"));
@@ -221,30 +217,13 @@ pub fn faults(case: &Case, asked: &Asked, expected: &Left, found: &Left) -> Vec<
     faults
 }
 
-/// 0 beside a refusal, else between its two bounds; where nothing was searched, the one that is expected.
-fn floor_permitted(case: &Case, asked: &Asked, expected: &Left, floor: u64) -> bool {
-    match case.search() {
-        _ if expected.answer.refusal != 0 => floor == 0,
-        None => floor == expected.answer.floor,
-        Some(search) => plain::permitted_floor(asked.p, asked.q, expected.answer.cost, floor, search.known_cost()),
-    }
-}
-
 /// The report of a planning call: parameters, expected, found.
-fn plan_details(case: &Case, asked: &Asked, expected: &Left, found: &Left) -> String {
-    let said = |left: &Left, floor: String| {
-        let Planned { refusal, cost, slack, k, .. } = left.answer;
+fn plan_details(asked: &Asked, expected: &Left, found: &Left) -> String {
+    let said = |left: &Left| {
+        let Planned { refusal, cost, slack, k, floor } = left.answer;
         format!("refusal {refusal} cost {cost} slack {slack} k {k} floor {floor} buffer {:?}", left.buffer)
     };
-    let floors = match case.search().filter(|_| expected.answer.refusal == 0) {
-        None => expected.answer.floor.to_string(),
-        Some(search) => {
-            let (Asked { p, q, .. }, cost) = (asked, expected.answer.cost);
-            format!("from {q} x {cost} / ({q} + {p}) to {}", search.known_cost())
-        }
-    };
-    let (expected, found) = (said(expected, floors), said(found, found.answer.floor.to_string()));
-    format!("before:   {}\nexpected: {expected}\nfound:    {found}", asked.contents())
+    format!("before:   {}\nexpected: {}\nfound:    {}", asked.contents(), said(expected), said(found))
 }
 
 // ------------------------------------------------------------------------------------------------
@@ -308,15 +287,15 @@ impl Comparison {
         self.plan_gives(case, &again, &case.planned(&again))
     }
 
-    /// Plan, against a given answer. The floor is held to its two bounds, if the case was searched.
+    /// Plan, against a given answer.
     pub fn plan_gives(&mut self, case: &Case, asked: &Asked, expected: &Left) -> Outcome {
         let call = || format!("plan, {}, {}", case.name, asked.words());
         self.say(|| format!("{}\n  {}", call(), asked.contents()), &case.bytes);
         let (mut table, mut buffer) = (asked.table.clone(), asked.buffer.clone());
         let answer = self.host.plan(&case.bytes, asked.p, asked.q, &mut table, &mut buffer);
         let found = Left { answer, table, buffer };
-        let faults = faults(case, asked, expected, &found);
-        self.settle(call, &case.bytes, faults, || plan_details(case, asked, expected, &found))
+        let faults = faults(asked, expected, &found);
+        self.settle(call, &case.bytes, faults, || plan_details(asked, expected, &found))
     }
 
     /// The chart's number, against the rule of 02. No net has a part in it.

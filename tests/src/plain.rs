@@ -552,7 +552,8 @@ pub struct Judged {
     pub slack: i64,
 }
 
-/// "Accepted: cost and slack, as judging gives them for the plan returned; k, the grain's; and a floor."
+/// "Accepted: cost and slack, as judging gives them for the plan returned; k, the grain's; and a floor." "The floor is to
+/// be exactly g × V(k)" (02, wish 6).
 #[derive(Clone, Copy, Debug, Default, PartialEq)]
 pub struct Planned {
     pub refusal: u8,
@@ -610,7 +611,7 @@ pub fn plan(bytes: &[u8], p: u64, q: u64, table: &mut [i64], buffer: &mut [u8]) 
 /// Planning, once the net is read: "9, p above 1,000 or q outside 1 to 1,000; 10, plan buffer shorter than s; 11,
 /// no plan meets timing; 12, fewer than V(k) + 1 columns. Each is given just where its condition is the first to
 /// hold." "The plan's s bytes open the buffer; later bytes keep their values. The table is all zero after
-/// acceptance and after 12, and unchanged after 1 to 11." The floor given here is g × V(k), one that is permitted.
+/// acceptance and after 12, and unchanged after 1 to 11."
 pub fn plan_net(net: &Net, search: &dyn Search, p: u64, q: u64, table: &mut [i64], buffer: &mut [u8]) -> Planned {
     let s = stage_count(net);
     if p > 1_000 || !(1..=1_000).contains(&q) {
@@ -633,12 +634,13 @@ pub fn plan_net(net: &Net, search: &dyn Search, p: u64, q: u64, table: &mut [i64
     table.fill(0);
     let judged = judge_net(net, &plan);
     let floor = narrow(grain_size(k) * least);
+    assert!(is_floor(p, q, judged.cost, floor, search.known_cost()), "g × V(k) keeps both bounds of 01");
     Planned { refusal: 0, cost: judged.cost, slack: judged.slack, k: k as u64, floor }
 }
 
 /// "The floor is at most the cost of every plan of the net that meets timing, and q × cost is at most (q + p) ×
 /// floor." `cheapest` is the cost of the cheapest plan that meets timing.
-pub fn permitted_floor(p: u64, q: u64, cost: u64, floor: u64, cheapest: i128) -> bool {
+fn is_floor(p: u64, q: u64, cost: u64, floor: u64, cheapest: i128) -> bool {
     floor as i128 <= cheapest && q as i128 * cost as i128 <= (q as i128 + p as i128) * floor as i128
 }
 

@@ -70,10 +70,10 @@ fn judging_rows(c: &mut Comparison) -> Outcome {
     row("row: a slack of -1 (A, required 829)", &net_a(829).bytes(), &[0], 0, 10, -1)
 }
 
-/// What a row of planning says: the refusal, or plan, cost, slack and k.
+/// What a row of planning says: the refusal, or plan, cost, slack, k and floor.
 enum Says<'a> {
     Refused(u8),
-    Plan(&'a [u8], u64, i64, u64),
+    Plan(&'a [u8], u64, i64, u64, u64),
 }
 
 impl Says<'_> {
@@ -81,13 +81,13 @@ impl Says<'_> {
     fn left(&self, asked: &Asked) -> Left {
         let (answer, plan) = match *self {
             Says::Refused(refusal) => (Planned { refusal, ..Default::default() }, &[][..]),
-            Says::Plan(plan, cost, slack, k) => (Planned { refusal: 0, cost, slack, k, floor: 0 }, plan),
+            Says::Plan(plan, cost, slack, k, floor) => (Planned { refusal: 0, cost, slack, k, floor }, plan),
         };
         Left::beside(answer, plan, asked)
     }
 }
 
-/// One row of planning, with garbage in table and buffer. The floor's upper bound comes from the plain search.
+/// One row of planning, with garbage in table and buffer.
 fn planning_row(
     c: &mut Comparison,
     (name, bytes): (&str, &[u8]),
@@ -98,7 +98,7 @@ fn planning_row(
     let case = Case::searched(name, bytes, 10_000);
     let asked = c.asked(p, q, table_len, buffer_len);
     let left = says.left(&asked);
-    assert_eq!(faults(&case, &asked, &left, &case.planned(&asked)), [""; 0], "{name}");
+    assert_eq!(faults(&asked, &left, &case.planned(&asked)), [""; 0], "{name}");
     c.plan_gives(&case, &asked, &left)
 }
 
@@ -107,22 +107,22 @@ fn planning_rows(c: &mut Comparison) -> Outcome {
     let b = net_b().bytes();
     let a = |required| net_a(required).bytes();
     let buffers = |count| line(count, 0).bytes();
-    planning_row(c, ("row †: A, required 829", &a(829)), (0, 1), (8_192, 64), Plan(&[1], 20, 599, 0))?;
-    planning_row(c, ("row †: A, required 230", &a(230)), (0, 1), (8_192, 64), Plan(&[1], 20, 0, 0))?;
+    planning_row(c, ("row †: A, required 829", &a(829)), (0, 1), (8_192, 64), Plan(&[1], 20, 599, 0, 20))?;
+    planning_row(c, ("row †: A, required 230", &a(230)), (0, 1), (8_192, 64), Plan(&[1], 20, 0, 0, 20))?;
     planning_row(c, ("row †: A, required 229", &a(229)), (0, 1), (8_192, 64), Refused(11))?;
-    planning_row(c, ("row †: B [0/1]", &b), (0, 1), (8_192, 64), Plan(&[1, 0], 32, 0, 0))?;
-    planning_row(c, ("row: B [0/1], 132 entries serve", &b), (0, 1), (132, 2), Plan(&[1, 0], 32, 0, 0))?;
+    planning_row(c, ("row †: B [0/1]", &b), (0, 1), (8_192, 64), Plan(&[1, 0], 32, 0, 0, 32))?;
+    planning_row(c, ("row: B [0/1], 132 entries serve", &b), (0, 1), (132, 2), Plan(&[1, 0], 32, 0, 0, 32))?;
     planning_row(c, ("row †: B [0/1], 131 entries", &b), (0, 1), (131, 2), Refused(12))?;
-    planning_row(c, ("row †: B [1/1]", &b), (1, 1), (8_192, 64), Plan(&[1, 0], 32, 0, 3))?;
-    planning_row(c, ("row †: B [2/1]", &b), (2, 1), (8_192, 64), Plan(&[0, 1], 35, 0, 4))?;
-    planning_row(c, ("row: B [2/1], 8 entries serve", &b), (2, 1), (8, 2), Plan(&[0, 1], 35, 0, 4))?;
+    planning_row(c, ("row †: B [1/1]", &b), (1, 1), (8_192, 64), Plan(&[1, 0], 32, 0, 3, 24))?;
+    planning_row(c, ("row †: B [2/1]", &b), (2, 1), (8_192, 64), Plan(&[0, 1], 35, 0, 4, 16))?;
+    planning_row(c, ("row: B [2/1], 8 entries serve", &b), (2, 1), (8, 2), Plan(&[0, 1], 35, 0, 4, 16))?;
     planning_row(c, ("row: B [2/1], 7 entries do not", &b), (2, 1), (7, 2), Refused(12))?;
-    planning_row(c, ("row: B [1/4], as the program", &b), (1, 4), (8_192, 64), Plan(&[0, 1], 35, 0, 2))?;
+    planning_row(c, ("row: B [1/4], as the program", &b), (1, 4), (8_192, 64), Plan(&[0, 1], 35, 0, 2, 32))?;
     planning_row(c, ("row: empty input: 1", &[]), (1, 4), (8_192, 64), Refused(1))?;
-    planning_row(c, ("row: 63 buffers pass", &buffers(63)), (0, 1), (8_192, 64), Plan(&[0; 64], 64, SLACK_63, 0))?;
+    planning_row(c, ("row: 63 buffers pass", &buffers(63)), (0, 1), (8_192, 64), Plan(&[0; 64], 64, SLACK_63, 0, 64))?;
     planning_row(c, ("row: 64 buffers give 4", &buffers(64)), (1, 4), (8_192, 64), Refused(4))?;
-    planning_row(c, ("row: a slack of -1 misses", &a(829)), (1, 1_000), (8_192, 1), Plan(&[1], 20, 599, 0))?;
-    planning_row(c, ("row: a slack of 0 meets", &a(830)), (0, 1), (8_192, 1), Plan(&[0], 10, 0, 0))?;
+    planning_row(c, ("row: a slack of -1 misses", &a(829)), (1, 1_000), (8_192, 1), Plan(&[1], 20, 599, 0, 20))?;
+    planning_row(c, ("row: a slack of 0 meets", &a(830)), (0, 1), (8_192, 1), Plan(&[0], 10, 0, 0, 10))?;
     planning_row(c, ("row: q = 0: 9", &b), (1, 0), (8_192, 64), Refused(9))
 }
 
@@ -138,7 +138,7 @@ fn length_rows(c: &mut Comparison) -> Outcome {
         let (name, bytes) = with_length(length);
         reading_row(c, &name, &bytes, [0, 2, 1, 2])?;
         judging_row(c, &name, &bytes, &[0], Judged { refusal: 0, cost: 10, slack })?;
-        planning_row(c, (&name, &bytes), (0, 1), (8_192, 64), Says::Plan(&[0], 10, slack, 0))?;
+        planning_row(c, (&name, &bytes), (0, 1), (8_192, 64), Says::Plan(&[0], 10, slack, 0, 10))?;
     }
     for length in [4_001, 4_095, 4_096, 8_191, 65_535] {
         let (name, bytes) = with_length(length);
@@ -178,19 +178,19 @@ fn via_rows(c: &mut Comparison) -> Outcome {
         judging_row(c, &name, &bytes, plan, Judged { refusal: 0, cost, slack })?;
     }
     for (name, bytes, (p, q), table_len, says) in [
-        ("A, required 830", a(830), (0, 1), 33, Plan(&[0], 10, 0, 0)),
-        ("A, required 829", a(829), (0, 1), 63, Plan(&[1], 20, 519, 0)),
-        ("A, required 310", a(310), (0, 1), 63, Plan(&[1], 20, 0, 0)),
+        ("A, required 830", a(830), (0, 1), 33, Plan(&[0], 10, 0, 0, 10)),
+        ("A, required 829", a(829), (0, 1), 63, Plan(&[1], 20, 519, 0, 20)),
+        ("A, required 310", a(310), (0, 1), 63, Plan(&[1], 20, 0, 0, 20)),
         ("A, required 310, a column short", a(310), (0, 1), 62, Refused(12)),
         ("A, required 309", a(309), (0, 1), 8_192, Refused(11)),
         // V(0) is 45 where the vias leave the plan 1 1 alone.
-        ("B [0/1]", b(1_063), (0, 1), 184, Plan(&[1, 1], 45, 440, 0)),
+        ("B [0/1]", b(1_063), (0, 1), 184, Plan(&[1, 1], 45, 440, 0, 45)),
         ("B [0/1], 183 entries", b(1_063), (0, 1), 183, Refused(12)),
-        ("B [1/4], as the program", b(1_063), (1, 4), 8_192, Plan(&[1, 1], 45, 440, 2)),
-        ("B, 80 ticks later, [0/1]", b(1_143), (0, 1), 132, Plan(&[1, 0], 32, 0, 0)),
-        ("B, 80 ticks later, [2/1]", b(1_143), (2, 1), 8, Plan(&[0, 1], 35, 0, 4)),
-        ("B, 79 ticks later, [0/1]", b(1_142), (0, 1), 8_192, Plan(&[1, 1], 45, 519, 0)),
-        ("B, required 623", b(623), (1, 1), 8_192, Plan(&[1, 1], 45, 0, 4)),
+        ("B [1/4], as the program", b(1_063), (1, 4), 8_192, Plan(&[1, 1], 45, 440, 2, 44)),
+        ("B, 80 ticks later, [0/1]", b(1_143), (0, 1), 132, Plan(&[1, 0], 32, 0, 0, 32)),
+        ("B, 80 ticks later, [2/1]", b(1_143), (2, 1), 8, Plan(&[0, 1], 35, 0, 4, 16)),
+        ("B, 79 ticks later, [0/1]", b(1_142), (0, 1), 8_192, Plan(&[1, 1], 45, 519, 0, 45)),
+        ("B, required 623", b(623), (1, 1), 8_192, Plan(&[1, 1], 45, 0, 4, 32)),
         ("B, required 622", b(622), (1, 1), 8_192, Refused(11)),
     ] {
         planning_row(c, (&format!("row: with vias, {name}"), &bytes), (p, q), (table_len, 64), says)?;
@@ -211,9 +211,9 @@ fn empty_edge_rows(c: &mut Comparison) -> Outcome {
         judging_row(c, &name, &short(50), &[layer], Judged { refusal: 0, cost, slack })?;
     }
     for (required, says) in [
-        (50, Says::Plan(&[0], 10, 0, 0)),
-        (49, Says::Plan(&[1], 20, 39, 0)),
-        (10, Says::Plan(&[1], 20, 0, 0)),
+        (50, Says::Plan(&[0], 10, 0, 0, 10)),
+        (49, Says::Plan(&[1], 20, 39, 0, 20)),
+        (10, Says::Plan(&[1], 20, 0, 0, 20)),
         (9, Says::Refused(11)),
     ] {
         let name = format!("row: length 0 with vias, required {required}");
@@ -231,7 +231,7 @@ fn via_limit_rows(c: &mut Comparison) -> Outcome {
             let expected = Judged { refusal: 0, cost, slack: slack[layer as usize] };
             judging_row(c, &name, &bytes, &[layer], expected)?;
         }
-        planning_row(c, (&name, &bytes), (0, 1), (8_192, 64), Says::Plan(&[0], 10, slack[0], 0))?;
+        planning_row(c, (&name, &bytes), (0, 1), (8_192, 64), Says::Plan(&[0], 10, slack[0], 0, 10))?;
     }
     for via in [1_001, 1_023, 1_024, 4_000, 32_768, 65_535] {
         for vias in [[0, via], [via, 0]] {

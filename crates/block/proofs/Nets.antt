@@ -54,7 +54,7 @@ module _ (bs : List ℕ) (table : List ℤ) (buffer : List ℕ) (long : length t
   -- one that planning refuses
   pub not-planned : 1 ≤ r .refusal → Refused bs (r .refusal)
   not-planned h =
-      let e = program-refused bs table buffer long room r (P .same) h in
+      let e = program-refused bs table buffer long room r P h in
       record { number-is = e; number-low = omega (arith, planned-numbered bs 1 4 programTable programRoom .low (r .refusal) e) }
 
   -- a planned net n, with plan x
@@ -65,7 +65,7 @@ module _ (bs : List ℕ) (table : List ℤ) (buffer : List ℕ) (long : length t
     pub cost-is : r .cost ≡ cost n x
 
   -- the choice that was settled is such a net
-  chosen-net : (C : ProgramChoice bs table buffer long room r (P .same)) → PlannedNet (C .choice .net) (C .choice .plan)
+  chosen-net : (C : ProgramChoice bs table buffer long room r P) → PlannedNet (C .choice .net) (C .choice .plan)
   unfolding isPlan
   chosen-net C =
       let n = C .choice .net in
@@ -81,7 +81,7 @@ module _ (bs : List ℕ) (table : List ℤ) (buffer : List ℕ) (long : length t
   -- one that is planned: the net that was read, with the plan at the front of the buffer
   pub is-planned : {w : List ℕ} {nodes s layers : ℕ} → Kept bs w nodes s layers → r .refusal ≡ 0 → PlannedNet (netIn w) (take s after)
   is-planned {w} {s = s} K z =
-      let C = program-accepted bs table buffer long room r (P .same) z in
+      let C = program-accepted bs table buffer long room r P z in
       let e : C .choice .net ≡ netIn w = accept-injective (sym (C .settled .holds) ∙ K .holds) in
       let h : C .choice .plan ≡ take s after = sym (C .plan-here) ∙ ap (λ (m : ℕ). take m after) (ap stages e ∙ sym (K .stages-are)) in
       subst (λ (n : Net). PlannedNet n (take s after)) e (subst (PlannedNet (C .choice .net)) h (chosen-net C))

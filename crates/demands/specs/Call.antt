@@ -5,16 +5,17 @@ use mathlib.Core.Option.{Option, none, some}
 use mathlib.Core.List.{List, _++_}
 use Prim.Native.Nat.{ℕ, _+_, _*_, _≤_, _<_}
 use native.Mathlib.Omega.{arith}
-use lib.Dec.{leb, ltb}
+use lib.Dec.{leb, ltb, eqb}
 use lib.ListN.{length, take, drop}
 use lib.Seq.{take-at}
-use lib.IntN.{ℤ}
-use borrow.Author.Tests.{le-leb, leb-false}
-use Rattle.laws.specs.Basic.{within}
+use lib.IntN.{ℤ, pos}
+use borrow.Author.Tests.{le-leb, leb-true, leb-false}
+use Rattle.laws.specs.Basic.{if_then_else_, within}
+use Rattle.laws.specs.Booleans.{and-left, and-right}
 use Rattle.rules.specs.declared.Planned.{Planned}
 use Rattle.rules.specs.Tree.{Net, stages, isPlan}
 use Rattle.rules.specs.Timing.{slack, meets, cost}
-use Rattle.rules.specs.Grain.{meetingPlans, grainExponent, chosen, columns, columnsNeeded}
+use Rattle.rules.specs.Grain.{meetingPlans, floor, grainExponent, chosen, columns, columnsNeeded}
 use Rattle.rules.specs.Reading.{Answer, accept, refuse, _>>=_, _>>_, _unless_, read}
 use Rattle.rules.specs.Planning.{maxShare, Choice, taken, planned, PlanAnswer, cleared, plan, planAnswer, enoughColumns, Plannable, Demand2, Demand3}
 use Rattle.facts.specs.Answers.{not-refused, accept-injective, refuse-injective, then-accepted, unless-accepted}
@@ -32,6 +33,15 @@ taken-numbered (some x) = accept-numbered 12 x
 -- A share in its range passes the test of refusal 9.
 pub share-in : (p q : ℕ) → p ≤ maxShare → 1 ≤ q → q ≤ maxShare → leb p maxShare && within 1 maxShare q ≡ true
 share-in p q p-in q-some q-in = rw (le-leb p 1000 p-in, le-leb 1 q q-some, le-leb q 1000 q-in) refl
+
+-- And only such a share passes it.
+pub share-out : (p q : ℕ) → leb p maxShare && within 1 maxShare q ≡ true → (p ≤ maxShare) × (1 ≤ q) × (q ≤ maxShare)
+share-out p q e =
+    let w = and-right (leb p maxShare) (within 1 maxShare q) e in (
+      leb-true p maxShare (and-left (leb p maxShare) (within 1 maxShare q) e),
+      leb-true 1 q (and-left (leb 1 q) (leb q maxShare) w),
+      leb-true q maxShare (and-right (leb 1 q) (leb q maxShare) w),
+    )
 
 taken-is : (o : Option (List ℕ)) {x : List ℕ} → taken o ≡ accept x → o ≡ some x
 taken-is none e = not-refused e
@@ -57,6 +67,7 @@ module _ (bs : List ℕ) (p q entries room : ℕ) where
   -- What an accepted call settles.
   pub record Settled (c : Choice) : Type 0 where
     pub holds : read bs ≡ accept (c .net)
+    pub share-is : leb p maxShare && within 1 maxShare q ≡ true
     pub exponent-is : c .k ≡ grainExponent (c .net) p q
     pub chosen-here : chosen (c .net) (grainExponent (c .net) p q) ≡ some (c .plan)
 
@@ -70,7 +81,7 @@ module _ (bs : List ℕ) (p q entries room : ℕ) where
       let (t12, e5) = unless-accepted 12 (leb (columnsNeeded n (grainExponent n p q)) (columns n entries)) _ e4 in
       let (x, b, e6) = then-accepted (taken (chosen n (grainExponent n p q))) _ e5 in
       let w : record { net = n; k = grainExponent n p q; plan = x } ≡ c = accept-injective e6 in
-      rw (← w) (record { holds = a; exponent-is = refl; chosen-here = taken-is (chosen n (grainExponent n p q)) b })
+      rw (← w) (record { holds = a; share-is = t9; exponent-is = refl; chosen-here = taken-is (chosen n (grainExponent n p q)) b })
 
   -- Where the columns are enough, 12 is not given.
   steps : (a b c d : Bool) (o : Option (List ℕ)) (f : List ℕ → Choice) → d ≡ true
@@ -120,26 +131,49 @@ module _ (bs : List ℕ) (p q entries room : ℕ) where
 -- The answer of the definition, by what `planned` gives.
 module _ (bs : List ℕ) (p q : ℕ) (table : List ℤ) (buffer : List ℕ) where
   pub plan-accepted : {c : Choice} → planned bs p q (length table) (length buffer) ≡ accept c
-      → plan bs p q table buffer ≡ record { refusal = 0; cost = cost (c .net) (c .plan); slack = slack (c .net) (c .plan); k = c .k; buffer = c .plan ++ drop (length (c .plan)) buffer; table = cleared table }
+      → plan bs p q table buffer ≡ record {
+        refusal = 0;
+        cost = cost (c .net) (c .plan);
+        slack = slack (c .net) (c .plan);
+        k = c .k;
+        floor = floor (c .net) (c .k);
+        buffer = c .plan ++ drop (length (c .plan)) buffer;
+        table = cleared table;
+      }
   unfolding plan
   plan-accepted e = rw (e, plan)
 
-  refusal-is : {r : ℕ} → planned bs p q (length table) (length buffer) ≡ refuse r → plan bs p q table buffer .refusal ≡ r
+  pub plan-refuses : {r : ℕ} → planned bs p q (length table) (length buffer) ≡ refuse r
+      → plan bs p q table buffer ≡ record {
+        refusal = r;
+        cost = 0;
+        slack = pos 0;
+        k = 0;
+        floor = 0;
+        buffer = buffer;
+        table = if eqb r 12 then cleared table else table;
+      }
   unfolding plan
-  refusal-is e = rw (e, plan)
+  plan-refuses e = rw (e, plan)
+
+  refusal-is : {r : ℕ} → planned bs p q (length table) (length buffer) ≡ refuse r → plan bs p q table buffer .refusal ≡ r
+  refusal-is e = ap (λ (a : PlanAnswer). a .refusal) (plan-refuses e)
+
+  -- An answer that is no refusal was settled.
+  pub answered-choice : plan bs p q table buffer .refusal ≡ 0 → (c : Choice) × (planned bs p q (length table) (length buffer) ≡ accept c)
+  answered-choice z = go (planned bs p q (length table) (length buffer)) refl
+    where
+      go : (a : Answer Choice) → planned bs p q (length table) (length buffer) ≡ a → (c : Choice) × (planned bs p q (length table) (length buffer) ≡ accept c)
+      go (accept c) e = (c, e)
+      go (refuse s) e = absurd (omega (arith, z, refusal-is e, planned-numbered bs p q (length table) (length buffer) .some s e))
 
   -- Demand 3 for every answer that equals the definition.
   module _ (r : Planned) {after : List ℕ} {cleaned : List ℤ} (same : planAnswer r after cleaned ≡ plan bs p q table buffer) where
     number : r .refusal ≡ plan bs p q table buffer .refusal
     number = ap (λ (a : PlanAnswer). a .refusal) same
 
-    -- an accepted answer was settled
     pub accepted-choice : r .refusal ≡ 0 → (c : Choice) × (planned bs p q (length table) (length buffer) ≡ accept c)
-    accepted-choice z = go (planned bs p q (length table) (length buffer)) refl
-      where
-        go : (a : Answer Choice) → planned bs p q (length table) (length buffer) ≡ a → (c : Choice) × (planned bs p q (length table) (length buffer) ≡ accept c)
-        go (accept c) e = (c, e)
-        go (refuse s) e = absurd (omega (arith, number, refusal-is e, planned-numbered bs p q (length table) (length buffer) .some s e))
+    accepted-choice z = answered-choice (sym number ∙ z)
 
     pub number-refused : {m : ℕ} → r .refusal ≡ m → 1 ≤ m → planned bs p q (length table) (length buffer) ≡ refuse m
     number-refused {m} z one = go (planned bs p q (length table) (length buffer)) refl

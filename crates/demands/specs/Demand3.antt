@@ -4,12 +4,12 @@ use mathlib.Core.Path.{_≡_, ap, _∙_}
 use mathlib.Core.Bool.{true}
 use mathlib.Core.Option.{some}
 use mathlib.Core.List.{List}
-use Prim.Native.Nat.{ℕ, _+_, _*_, _^_, _≤_}
+use Prim.Native.Nat.{ℕ, _+_, _*_, _≤_}
 use native.Mathlib.Omega.{arith}
 use native.Mathlib.Nat.{add-zero, mul-le-mul-left, le-of-mul-le-mul-left}
 use Rattle.rules.specs.Tree.{Net, isPlan}
 use Rattle.rules.specs.Timing.{meets, cost}
-use Rattle.rules.specs.Grain.{leastRounded, grainExponent, chosen}
+use Rattle.rules.specs.Grain.{floor, grainExponent, chosen}
 use Rattle.rules.specs.Planning.{IsFloor}
 use Rattle.facts.specs.Accepted.{Accepted}
 use Rattle.oracle.specs.Value.{exponent, firstPlan}
@@ -18,14 +18,15 @@ use Rattle.demands.specs.StageNumbers.{treeOf}
 use Rattle.demands.specs.Same.{cost-same, value-same, exponent-same, first-same}
 use Rattle.demands.specs.Values.{grain-below}
 
--- Demand 3, for whatever floor is answered: the two bounds on it put the cost within the share of the cost of every plan that meets timing.
-pub floor-near : {n : Net} {p q planCost floor : ℕ} → IsFloor n p q planCost floor → (y : List ℕ) → isPlan n y ≡ true → meets n y ≡ true
+-- The two bounds on a floor put the cost within the share of the cost of every plan that meets timing.
+pub floor-near : {n : Net} {p q planCost bound : ℕ} → IsFloor n p q planCost bound → (y : List ℕ) → isPlan n y ≡ true → meets n y ≡ true
     → q * planCost ≤ (q + p) * cost n y
 floor-near {n} {p} {q} F y plan m = omega (arith, F .near, mul-le-mul-left (q + p) (F .below y plan m))
 
 module _ {n : Net} (A : Accepted n) (p q : ℕ) (x : List ℕ) (is : chosen n (grainExponent n p q) ≡ some x) where
-  -- Demand 3: the grain times V(k), at the grain's k, is a floor for the plan chosen, ..
-  pub chosen-floor : IsFloor n p q (cost n x) (2 ^ grainExponent n p q * leastRounded n (grainExponent n p q))
+  -- Demand 3: the floor at the grain's k keeps both bounds for the plan chosen, ..
+  pub chosen-floor : IsFloor n p q (cost n x) (floor n (grainExponent n p q))
+  unfolding floor
   chosen-floor = record {
     below = grain-below A (grainExponent n p q);
     near =

@@ -7,6 +7,7 @@ pub mod Demand2
 pub mod Demand3
 pub mod Columns
 pub mod Call
+pub mod Floor
 pub mod Program
 pub mod Chart
 pub mod Totals

@@ -14,7 +14,7 @@ use Rattle.laws.specs.Basic.{sum, lowest}
 use Rattle.laws.specs.Extremes.{largest-passes, largest-le}
 use Rattle.rules.specs.Tree.{Net, stages, isPlan}
 use Rattle.rules.specs.Timing.{meets, cost}
-use Rattle.rules.specs.Grain.{maxExponent, roundedCost, meetingPlans, leastRounded, qualifies, grainExponent}
+use Rattle.rules.specs.Grain.{maxExponent, roundedCost, meetingPlans, leastRounded, floor, qualifies, grainExponent}
 use Rattle.facts.specs.Accepted.{Accepted}
 use Rattle.facts.specs.Stages.{stages-some}
 use Rattle.facts.specs.Costs.{small}
@@ -64,12 +64,14 @@ module _ {n : Net} (A : Accepted n) where
   pub least-top : leastRounded n maxExponent ≡ 0
   least-top = either (λ x M. sym (value-same A maxExponent) ∙ value-zero (treeOf n) x M (small-costs x)) (λ z. z maxExponent)
 
-  -- Demand 3: the grain times V(k) is at most the cost of every plan that meets timing, ..
-  pub grain-below : (k : ℕ) (y : List ℕ) → isPlan n y ≡ true → meets n y ≡ true → 2 ^ k * leastRounded n k ≤ cost n y
+  -- Demand 3: the floor at k is at most the cost of every plan that meets timing, ..
+  pub grain-below : (k : ℕ) (y : List ℕ) → isPlan n y ≡ true → meets n y ≡ true → floor n k ≤ cost n y
+  unfolding floor
   grain-below k y p m = rw (← value-same A k, ← cost-same A y) (floor-below (treeOf n) k y (meeting A y p m))
 
-  -- .. so it is below 2^28, and V(k) is.
-  pub grain-small : (k : ℕ) → 2 ^ k * leastRounded n k < 2 ^ maxExponent
+  -- .. so it is below 2^28.
+  pub grain-small : (k : ℕ) → floor n k < 2 ^ maxExponent
+  unfolding floor
   grain-small k = either
       (λ x M. let (p, m) = meeting-is A x M in omega (arith, grain-below k x p m, small A x))
       (λ z. rw (z k) (omega arith))

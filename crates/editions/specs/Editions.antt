@@ -255,8 +255,7 @@ module _ (f g : Net → List ℕ → ℤ) (a : Answer Net) (same : (n : Net) →
   line-timed : lineBy f (programBy f a) ≡ lineBy g (programBy g a)
   line-timed = choice-timed lineBy (λ c e. ap (λ (s : List ℕ → ℤ). lineBy (λ m. s) (accept c)) e) (λ r. refl) 1 4 programTable programRoom
 
--- A file is read, checked, judged and planned as before vias, by the program too, and a net that it holds has none. (Of planning all but the floor, which no
--- definition decides: `PlanAnswer`.)
+-- A file is read, checked, judged and planned as before vias, by the program too, and a net that it holds has none.
 pub record AsBefore (bs : List ℕ) : Type 0 where
   pub read-same : read bs ≡ readFirst bs
   pub no-vias : (n : Net) → read bs ≡ accept n → NoVias n

@@ -1,5 +1,6 @@
--- The rules as they stood before vias (02, wish 5): 01, with the lengths of wish 3. Timing and the layers field stand as they were. What rests on timing and
--- on reading stands once, with both handed in: handed those of today it is today's rules (`check-is` to `report-is`), and so nothing else can differ.
+-- The rules as they stood before vias (02, wish 5): 01, with the lengths of wish 3, and with the floor of wish 6, which no rule decided then. Timing and the
+-- layers field stand as they were. What rests on timing and on reading stands once, with both handed in: handed those of today it is today's rules (`check-is`
+-- to `report-is`), and so nothing else can differ.
 use mathlib.Core.Path.{_≡_, refl, ap}
 use mathlib.Core.Bool.{Bool, _&&_}
 use mathlib.Core.Option.{Option}
@@ -16,7 +17,7 @@ use Rattle.rules.specs.declared.Report.{Report}
 use Rattle.rules.specs.Tree.{Layer, Net, stages, root, layerCount, between, terminals, on, areLayers, plans}
 use Rattle.rules.specs.Bytes.{maxUnit, maxLayers, maxLength, maxNodes, layersTag, Field, next, number, dueDriver, driverAt, isDriver}
 use Rattle.rules.specs.Timing.{load, edgeDelay, gateRes, gateIntrinsic, terminalTime, slack, meets, cost}
-use Rattle.rules.specs.Grain.{maxExponent, roundedCost, meetingPlans, leastRounded, qualifies, grainExponent, chosen, columns, columnsNeeded}
+use Rattle.rules.specs.Grain.{maxExponent, roundedCost, meetingPlans, leastRounded, floor, qualifies, grainExponent, chosen, columns, columnsNeeded}
 use Rattle.rules.specs.Reading.{Answer, accept, refuse, _>>=_, _>>_, _unless_, field, nodesFrom, isWhole, read, check}
 use Rattle.rules.specs.Judging.{judged, judge}
 use Rattle.rules.specs.Planning.{maxShare, Choice, taken, planned, PlanAnswer, cleared, plan}
@@ -57,6 +58,10 @@ meetingBy f n = keep (meetsBy f) (plans n)
 -- V(k) (01, Rounded cost and the grain).
 unfoldable pub leastBy : (List ℕ → ℤ) → Net → ℕ → ℕ
 leastBy f n k = lowest (roundedCost n k) (meetingBy f n)
+
+-- The floor at k (02, wish 6).
+unfoldable pub floorBy : (List ℕ → ℤ) → Net → ℕ → ℕ
+floorBy f n k = 2 ^ k * leastBy f n k
 
 -- The test of k at share p/q.
 unfoldable pub qualifiesBy : (List ℕ → ℤ) → Net → ℕ → ℕ → ℕ → Bool
@@ -119,10 +124,11 @@ plannedAnswer f table buffer a = elim a [
     cost = cost (c .net) (c .plan);
     slack = f (c .net) (c .plan);
     k = c .k;
+    floor = floorBy (f (c .net)) (c .net) (c .k);
     buffer = c .plan ++ drop (length (c .plan)) buffer;
     table = cleared table;
   }
-  | refuse r ↦ record { refusal = r; cost = 0; slack = pos 0; k = 0; buffer = buffer; table = if eqb r 12 then cleared table else table }
+  | refuse r ↦ record { refusal = r; cost = 0; slack = pos 0; k = 0; floor = 0; buffer = buffer; table = if eqb r 12 then cleared table else table }
 ]
 
 -- and both.
@@ -158,7 +164,7 @@ unfolding planned plannedBy meets meetsBy meetingPlans meetingBy leastRounded le
 planned-is bs p q entries room = refl
 
 pub plan-is : (bs : List ℕ) (p q : ℕ) (table : List ℤ) (buffer : List ℕ) → plan bs p q table buffer ≡ planBy slack (read bs) p q table buffer
-unfolding plan
+unfolding plan meets meetsBy meetingPlans meetingBy leastRounded leastBy floor floorBy
 plan-is bs p q table buffer = ap (plannedAnswer slack table buffer) (planned-is bs p q (length table) (length buffer))
 
 pub program-is : (bs : List ℕ) → programPlanned bs ≡ programBy slack (read bs)

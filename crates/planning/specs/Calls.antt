@@ -1,5 +1,5 @@
--- What planning a net is given and gives: the answer of 01, the buffer and the table it leaves, and the floor.
-use mathlib.Core.Path.{_≡_, refl, ap, sym, _∙_, subst}
+-- What planning a net is given and gives: the answer of 01, and the buffer and the table it leaves.
+use mathlib.Core.Path.{_≡_, refl, ap, sym, _∙_}
 use mathlib.Core.Bool.{true, false, _&&_}
 use mathlib.Core.List.{List, _++_}
 use Prim.Native.Nat.{ℕ, _*_, _≤_}
@@ -17,15 +17,15 @@ use Rattle.rules.specs.declared.Planned.{Planned}
 use Rattle.rules.specs.declared.Judged.{Judged}
 use Rattle.rules.specs.Tree.{Net, stages, isPlan, areLayers}
 use Rattle.rules.specs.Timing.{cost, slack}
+use Rattle.rules.specs.Grain.{floor}
 use Rattle.rules.specs.Reading.{accept, refuse, read}
-use Rattle.rules.specs.Planning.{maxShare, Choice, planned, cleared, plan, planAnswer, IsFloor, FloorPromise}
-use Rattle.facts.specs.Answers.{accept-injective}
+use Rattle.rules.specs.Planning.{maxShare, Choice, planned, cleared, plan, planAnswer}
 use Rattle.facts.specs.Fits.{slack-fits, fits-signed}
 use Rattle.words.specs.Words.{netIn}
 use Rattle.words.specs.Held.{Held, held-accepted}
 use Rattle.tree.specs.Plans.{Fitting, fitting}
 use Rattle.demands.specs.StageNumbers.{treeOf}
-use Rattle.demands.specs.Call.{share-in, all-late, all-pass, plan-accepted}
+use Rattle.demands.specs.Call.{share-in, all-late, all-pass, plan-accepted, plan-refuses}
 use Rattle.slices.specs.Laid.{Laid}
 use Rattle.rounds.specs.Problem.{Problem}
 use Rattle.search.specs.Planned.{IsLate, IsShort, IsFound}
@@ -55,16 +55,12 @@ problem-in G laid e =
 abbrev pub refusedWith : ℕ → Planned
 refusedWith r = record { refusal = r; cost = 0; slack = pos 0; k = 0; floor = 0 }
 
--- The answer with what it leaves is that of 01, and its floor keeps the floor's promise.
-pub record PlansNet (bs : List ℕ) (p q : ℕ) (table tableAfter : List ℤ) (buffer bufferAfter : List ℕ) (r : Planned) : Type 0 where
-  pub same : planAnswer r bufferAfter tableAfter ≡ plan bs p q table buffer
-  pub floor-kept : FloorPromise bs p q r
+-- The answer with what it leaves in table and buffer is that of 01.
+abbrev pub PlansNet : List ℕ → ℕ → ℕ → List ℤ → List ℤ → List ℕ → List ℕ → Planned → Type 0
+PlansNet bs p q table tableAfter buffer bufferAfter r = planAnswer r bufferAfter tableAfter ≡ plan bs p q table buffer
 
 share-passes : {p q : ℕ} → Share p q → leb p maxShare && within 1 maxShare q ≡ true
 share-passes {p} {q} S = share-in p q (S .most) (S .some-part) (S .parts)
-
-pub refused-floor : (bs : List ℕ) (p q r : ℕ) → 1 ≤ r → FloorPromise bs p q (refusedWith r)
-refused-floor bs p q r h = record { bounded = λ n e z. absurd (omega arith); zero-refused = λ z. refl }
 
 -- What the search found, for the net in an array: the plan that 01 chooses.
 module _ {w : List ℕ} {nodes layers s p q : ℕ} (table : List ℤ) (buffer : List ℕ) (G : Admitted w nodes layers s p q (length buffer))
@@ -92,19 +88,17 @@ module _ (bs : List ℕ) (p q : ℕ) (table : List ℤ) (buffer : List ℕ) wher
   -- A refusal other than 12 leaves buffer and table as they were.
   pub plan-refused : {r : ℕ} → planned bs p q (length table) (length buffer) ≡ refuse r → eqb r 12 ≡ false
       → planAnswer (refusedWith r) buffer table ≡ plan bs p q table buffer
-  unfolding plan
-  plan-refused e d = rw (e, plan, d) refl
+  plan-refused e d = sym (rw d at (plan-refuses bs p q table buffer e))
 
   plan-short : planned bs p q (length table) (length buffer) ≡ refuse 12 → planAnswer (refusedWith 12) buffer (cleared table) ≡ plan bs p q table buffer
-  unfolding plan
-  plan-short e = rw (e, plan) refl
+  plan-short e = sym (plan-refuses bs p q table buffer e)
 
-  plan-done : {c : Choice} {k : ℕ} {after : List ℤ} {bufferAfter : List ℕ} → planned bs p q (length table) (length buffer) ≡ accept c → k ≡ c .k
-      → after ≡ replicate (length table) (pos 0) → bufferAfter ≡ c .plan ++ drop (length (c .plan)) buffer → (floor : ℕ)
-      → planAnswer (record { refusal = 0; cost = cost (c .net) (c .plan); slack = slack (c .net) (c .plan); k = k; floor = floor }) bufferAfter after
+  plan-done : {c : Choice} {k f : ℕ} {after : List ℤ} {bufferAfter : List ℕ} → planned bs p q (length table) (length buffer) ≡ accept c → k ≡ c .k
+      → f ≡ floor (c .net) (c .k) → after ≡ replicate (length table) (pos 0) → bufferAfter ≡ c .plan ++ drop (length (c .plan)) buffer
+      → planAnswer (record { refusal = 0; cost = cost (c .net) (c .plan); slack = slack (c .net) (c .plan); k = k; floor = f }) bufferAfter after
       ≡ plan bs p q table buffer
   unfolding cleared
-  plan-done e ek et eb floor = rw (ek, et, eb) (sym (plan-accepted bs p q table buffer e))
+  plan-done e ek ef et eb = rw (ek, ef, et, eb) (sym (plan-accepted bs p q table buffer e))
 
   module _ {w : List ℕ} {nodes layers s : ℕ} (G : Admitted w nodes layers s p q (length buffer)) (hold : read bs ≡ accept (netIn w)) where
     abbrev n : Net
@@ -120,20 +114,14 @@ module _ (bs : List ℕ) (p q : ℕ) (table : List ℤ) (buffer : List ℕ) wher
     -- The answers, by the outcome of the search.
     pub late-answer : {after : List ℤ} {bufferAfter : List ℕ} → IsLate (treeOf n) p q s table after buffer bufferAfter
         → PlansNet bs p q table after buffer bufferAfter (refusedWith 11)
-    late-answer I = record {
-      same =
-          let e = all-late bs p q (length table) (length buffer) hold (share-passes (G .share)) room-passes (none-meets (held-accepted (G .held)) I) in
-          rw (I .table-kept, I .plan-kept) (plan-refused e refl);
-      floor-kept = refused-floor bs p q 11 (omega arith);
-    }
+    late-answer I =
+        let e = all-late bs p q (length table) (length buffer) hold (share-passes (G .share)) room-passes (none-meets (held-accepted (G .held)) I) in
+        rw (I .table-kept, I .plan-kept) (plan-refused e refl)
 
     pub short-answer : {after : List ℤ} {bufferAfter : List ℕ} → IsShort (treeOf n) p q s table after buffer bufferAfter
         → PlansNet bs p q table after buffer bufferAfter (refusedWith 12)
     unfolding cleared
-    short-answer I = record {
-      same = rw (I .cleared, I .plan-kept) (plan-short (planned-12 (too-short (held-accepted (G .held)) (G .stages-are) I)));
-      floor-kept = refused-floor bs p q 12 (omega arith);
-    }
+    short-answer I = rw (I .cleared, I .plan-kept) (plan-short (planned-12 (too-short (held-accepted (G .held)) (G .stages-are) I)))
 
     module _ {k g v : ℕ} {after : List ℤ} {bufferAfter : List ℕ} (I : IsFound (treeOf n) p q s table after buffer bufferAfter k g v) where
       abbrev pub F : Served (held-accepted (G .held)) p q (length table) k g v buffer bufferAfter
@@ -141,16 +129,9 @@ module _ (bs : List ℕ) (p q : ℕ) (table : List ℤ) (buffer : List ℕ) wher
 
       pub found-answer : PlansNet bs p q table after buffer bufferAfter
           (record { refusal = 0; cost = cost n (F .x); slack = slack n (F .x); k = k; floor = g * v })
-      found-answer = record {
-        same =
-            let a = all-pass bs p q (length table) (length buffer) hold (share-passes (G .share)) room-passes (F .some-meets) (F .enough) (F .chosen-here) in
-            plan-done a (F .exponent-is) (I .cleared) (F .after-is) (g * v);
-        floor-kept = record {
-          bounded = λ m e z.
-              subst (λ (y : Net). IsFloor y p q (cost n (F .x)) (g * v)) (accept-injective (sym hold ∙ e)) (floor-is (held-accepted (G .held)) F);
-          zero-refused = λ z. absurd (z refl);
-        };
-      }
+      found-answer =
+          let a = all-pass bs p q (length table) (length buffer) hold (share-passes (G .share)) room-passes (F .some-meets) (F .enough) (F .chosen-here) in
+          plan-done a (F .exponent-is) (floor-is (held-accepted (G .held)) F) (I .cleared) (F .after-is)
 
       -- The answer with the cost and slack that judging gives.
       pub found-judged : {c : ℕ} {t : ℤ} → c ≡ cost n (take s bufferAfter) → t ≡ slack n (take s bufferAfter)

@@ -11,9 +11,8 @@ use lib.Seq.{take-at}
 use lib.IntN.{ℤ}
 use borrow.Author.Tests.{le-leb, lt-leb}
 use Rattle.rules.specs.Tree.{Net, stages, layerCount, isPlan}
-use Rattle.rules.specs.Timing.{cost}
-use Rattle.rules.specs.Grain.{maxExponent, meetingPlans, leastRounded, grainExponent, chosen, columns, columnsNeeded}
-use Rattle.rules.specs.Planning.{maxShare, IsFloor}
+use Rattle.rules.specs.Grain.{maxExponent, meetingPlans, leastRounded, floor, grainExponent, chosen, columns, columnsNeeded}
+use Rattle.rules.specs.Planning.{maxShare}
 use Rattle.facts.specs.Accepted.{Accepted}
 use Rattle.oracle.specs.Value.{value, exponent, firstPlan, MeetingPlan}
 use Rattle.demands.specs.StageNumbers.{treeOf, well-formed}
@@ -21,7 +20,6 @@ use Rattle.demands.specs.Same.{value-same, exponent-same, first-same}
 use Rattle.demands.specs.Plans.{some-plan-iff, some-meeting, meeting, meeting-is, plan-length}
 use Rattle.demands.specs.Values.{small-costs, grain-small}
 use Rattle.demands.specs.Demand2.{chosen-is}
-use Rattle.demands.specs.Demand3.{chosen-floor}
 use Rattle.slices.specs.Laid.{Laid}
 use Rattle.rounds.specs.Problem.{Problem}
 use Rattle.search.specs.Planned.{IsLate, IsShort, IsFound}
@@ -110,13 +108,10 @@ module _ {n : Net} (A : Accepted n) where
             (ap (take (length (I .chosen))) b ∙ take-at (I .chosen) (drop (length (I .chosen)) plan) (length (I .chosen)) refl);
       }
 
-  -- The floor g × V(k) keeps both bounds, and is small.
-  pub floor-is : {p q entries k g v : ℕ} {plan planAfter : List ℕ} (S : Served p q entries k g v plan planAfter) → IsFloor n p q (cost n (S .x)) (g * v)
-  floor-is {p} {q} {k = k} {g = g} {v = v} S =
-      let e : 2 ^ grainExponent n p q * leastRounded n (grainExponent n p q) ≡ g * v =
-      ap (λ (i : ℕ). 2 ^ i * leastRounded n i) (sym (S .exponent-is)) ∙
-      (ap (λ (i : ℕ). i * leastRounded n k) (sym (S .grain-is)) ∙ ap (λ (i : ℕ). g * i) (sym (S .value-is))) in
-      rw e at (chosen-floor A p q (S .x) (S .chosen-here))
+  -- The grain times V(k) is the floor at the grain's k, and is small.
+  pub floor-is : {p q entries k g v : ℕ} {plan planAfter : List ℕ} → Served p q entries k g v plan planAfter → g * v ≡ floor n (grainExponent n p q)
+  unfolding floor
+  floor-is S = rw (S .grain-is, S .value-is, S .exponent-is) refl
 
   pub floor-low : {p q entries k g v : ℕ} {plan planAfter : List ℕ} → Served p q entries k g v plan planAfter → g * v < 2 ^ maxExponent
-  floor-low {k = k} {g = g} {v = v} S = rw (S .grain-is, S .value-is) (grain-small A k)
+  floor-low {p} {q} S = rw (floor-is S) (grain-small A (grainExponent n p q))

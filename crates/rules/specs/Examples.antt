@@ -1,5 +1,5 @@
--- 01, 'Nets to try', the rows marked †, lengths (02, wish 3), vias (02, wish 5) and blocks to try (02, wish 2): lists of inputs and results, and one proof
--- that settles them against the rules.
+-- 01, 'Nets to try', the rows marked †, with their floors (02, wish 6), lengths (02, wish 3), vias (02, wish 5) and blocks to try (02, wish 2): lists of
+-- inputs and results, and one proof that settles them against the rules.
 use mathlib.Core.Bool.{Bool, true, false, _&&_}
 use mathlib.Core.List.{List, [], _∷_, _++_, map}
 use Prim.Native.Nat.{ℕ, zero, suc, _+_, _*_, _/_, _^_, _%_}
@@ -111,8 +111,8 @@ pub data Row : Type 0 where
   Checks : List ℕ → ℕ → ℕ → ℕ → ℕ → Row
   -- judged: net, plan; cost, slack
   Judges : List ℕ → List ℕ → ℕ → ℤ → Row
-  -- planned: net, p, q, table entries; plan, cost, slack, k
-  Plans : List ℕ → ℕ → ℕ → ℕ → List ℕ → ℕ → ℤ → ℕ → Row
+  -- planned: net, p, q, table entries; plan, cost, slack, k, floor
+  Plans : List ℕ → ℕ → ℕ → ℕ → List ℕ → ℕ → ℤ → ℕ → ℕ → Row
   -- planned and refused: net, p, q, table entries; refusal
   Refuses : List ℕ → ℕ → ℕ → ℕ → ℕ → Row
   -- reported: block; text
@@ -131,33 +131,35 @@ abbrev pub planOn : List ℕ → ℕ → ℕ → ℕ → PlanAnswer
 planOn bs p q entries = plan bs p q (usedTable entries) usedBuffer
 
 -- The answer has these results, the table these entries, the buffer these bytes.
-abbrev pub answers : PlanAnswer → ℕ → ℕ → ℤ → ℕ → List ℕ → List ℤ → Bool
-answers a r c s k buffer table =
-    eqb (a .refusal) r && (eqb (a .cost) c && (sameZ (a .slack) s && (eqb (a .k) k && (same eqb (a .buffer) buffer && same sameZ (a .table) table))))
+abbrev pub answers : PlanAnswer → ℕ → ℕ → ℤ → ℕ → ℕ → List ℕ → List ℤ → Bool
+answers a r c s k f buffer table =
+    eqb (a .refusal) r && (eqb (a .cost) c && (sameZ (a .slack) s && (eqb (a .k) k && (eqb (a .floor) f &&
+    (same eqb (a .buffer) buffer && same sameZ (a .table) table)))))
 
 -- A row holds.
 abbrev pub holds : Row → Bool
 holds (Checks bs r i s l) =
     eqb (check bs .refusal) r && (eqb (check bs .nodes) i && (eqb (check bs .stages) s && eqb (check bs .layers) l))
 holds (Judges bs x c s) = eqb (judge bs x .refusal) 0 && (eqb (judge bs x .cost) c && sameZ (judge bs x .slack) s)
-holds (Plans bs p q m x c s k) = answers (planOn bs p q m) 0 c s k (x ++ drop (length x) usedBuffer) (replicate m (pos 0))
-holds (Refuses bs p q m r) = answers (planOn bs p q m) r 0 (pos 0) 0 usedBuffer (Basic.if_then_else_ (eqb r 12) (replicate m (pos 0)) (usedTable m))
+holds (Plans bs p q m x c s k f) = answers (planOn bs p q m) 0 c s k f (x ++ drop (length x) usedBuffer) (replicate m (pos 0))
+holds (Refuses bs p q m r) = answers (planOn bs p q m) r 0 (pos 0) 0 0 usedBuffer (Basic.if_then_else_ (eqb r 12) (replicate m (pos 0)) (usedTable m))
 holds (Reports bs text) = same eqb (reportText bs) text
 
--- The rows, in the order of 01. Where 01 names no table, it has 200 entries.
+-- The rows, in the order of 01. Where 01 names no table, it has 200 entries. Floors: net B has V(3) = 3 and V(4) = 1, by the plans of cost 32 (20 and 12)
+-- and 35 (10 and 25); at share 0 the floor is the cost.
 abbrev pub rows : List Row
 rows =
     Judges netAHex (0 ∷ []) 10 (pos 0) ∷
     Judges (netA 830) (1 ∷ []) 20 (pos 600) ∷
-    Plans (netA 829) 0 1 200 (1 ∷ []) 20 (pos 599) 0 ∷
-    Plans (netA 230) 0 1 200 (1 ∷ []) 20 (pos 0) 0 ∷
+    Plans (netA 829) 0 1 200 (1 ∷ []) 20 (pos 599) 0 20 ∷
+    Plans (netA 230) 0 1 200 (1 ∷ []) 20 (pos 0) 0 20 ∷
     Refuses (netA 229) 0 1 200 11 ∷
     Judges netB (0 ∷ 0 ∷ []) 22 (negsuc 599) ∷
     Judges netB (1 ∷ 1 ∷ []) 45 (pos 600) ∷
-    Plans netB 0 1 132 (1 ∷ 0 ∷ []) 32 (pos 0) 0 ∷
+    Plans netB 0 1 132 (1 ∷ 0 ∷ []) 32 (pos 0) 0 32 ∷
     Refuses netB 0 1 131 12 ∷
-    Plans netB 1 1 200 (1 ∷ 0 ∷ []) 32 (pos 0) 3 ∷
-    Plans netB 2 1 8 (0 ∷ 1 ∷ []) 35 (pos 0) 4 ∷
+    Plans netB 1 1 200 (1 ∷ 0 ∷ []) 32 (pos 0) 3 24 ∷
+    Plans netB 2 1 8 (0 ∷ 1 ∷ []) 35 (pos 0) 4 16 ∷
     Refuses netB 2 1 7 12 ∷
     []
 
@@ -167,7 +169,7 @@ abbrev pub lengthRows : List Row
 lengthRows =
     Judges (netALong 4000 64168010) (0 ∷ []) 10 (pos 0) ∷
     Judges (netALong 4000 64168009) (0 ∷ []) 10 (negsuc 0) ∷
-    Plans (netALong 4000 64168009) 0 1 200 (1 ∷ []) 20 (pos 48119999) 0 ∷
+    Plans (netALong 4000 64168009) 0 1 200 (1 ∷ []) 20 (pos 48119999) 0 20 ∷
     Refuses (netALong 4000 16048009) 0 1 200 11 ∷
     Refuses (netALong 4001 64168010) 0 1 200 3 ∷
     Refuses (netALong 65535 64168010) 0 1 200 3 ∷
@@ -180,7 +182,7 @@ abbrev pub viaRows : List Row
 viaRows =
     Judges (netAVia 2 830) (1 ∷ []) 20 (pos 520) ∷
     Judges (netAVia 2 830) (0 ∷ []) 10 (pos 0) ∷
-    Plans (netAVia 2 310) 0 1 200 (1 ∷ []) 20 (pos 0) 0 ∷
+    Plans (netAVia 2 310) 0 1 200 (1 ∷ []) 20 (pos 0) 0 20 ∷
     Refuses (netAVia 2 309) 0 1 200 11 ∷
     Judges (netBOn (twoViaLayers 2)) (1 ∷ 0 ∷ []) 32 (negsuc 79) ∷
     Judges (netBOn (twoViaLayers 2)) (0 ∷ 1 ∷ []) 35 (negsuc 79) ∷
@@ -214,5 +216,5 @@ reportRows =
 
 -- All rows hold, by computing the definitions on them.
 pub settled : T (all (map holds (rows ++ (lengthRows ++ (viaRows ++ reportRows)))))
-unfolding Basic.largest Tree.node Tree.edges Tree.childrenOf Tree.roots Tree.stages Tree.root Tree.layerCount Tree.drives Tree.rootFrom Tree.pathFrom Tree.stageOf Tree.between Tree.edgesOf Tree.terminals Tree.areLayers Tree.isPlan Tree.plans Bytes.number Bytes.signed Bytes.fieldAt Bytes.next Bytes.dueLayers Bytes.dueDriver Bytes.dueNode Bytes.layerAt Bytes.layersAt Bytes.driverAt Bytes.kindAt Bytes.costsAt Bytes.nodeAt Bytes.isTime Bytes.isLayer Bytes.isDriver Bytes.isKind Bytes.isCosts Bytes.isNode Timing.layer Timing.edgeRes Timing.edgeCap Timing.loadFrom Timing.load Timing.edgeDelay Timing.gateRes Timing.gateIntrinsic Timing.rootVia Timing.gateDelay Timing.terminalVia Timing.wireDelay Timing.requiredFrom Timing.required Timing.slack Timing.meets Timing.edgeCost Timing.cost Timing.stageCost Timing.stageCosts Grain.roundedCost Grain.meetingPlans Grain.leastRounded Grain.qualifies Grain.grainExponent Grain.chosen Grain.columns Grain.columnsNeeded Reading.field Reading.children Reading.buffers Reading.hasRoom Reading.isParent Reading.nodeField Reading.nodesFrom Reading.isWhole Reading.readTo Reading.read Reading.check Judging.judged Judging.judge Planning.planned Planning.cleared Planning.plan Text.decimalFrom Text.decimal Program.refusedLine Block.dueNet Block.netField Block.payload Block.netsFrom Block.block Block.lengthOn Block.overPlanned Block.refusedNets Block.totals Block.noTotals Block.report Block.countLine Block.metLine Block.metFrom Block.totalsText Block.answerText Block.reportText
+unfolding Basic.largest Tree.node Tree.edges Tree.childrenOf Tree.roots Tree.stages Tree.root Tree.layerCount Tree.drives Tree.rootFrom Tree.pathFrom Tree.stageOf Tree.between Tree.edgesOf Tree.terminals Tree.areLayers Tree.isPlan Tree.plans Bytes.number Bytes.signed Bytes.fieldAt Bytes.next Bytes.dueLayers Bytes.dueDriver Bytes.dueNode Bytes.layerAt Bytes.layersAt Bytes.driverAt Bytes.kindAt Bytes.costsAt Bytes.nodeAt Bytes.isTime Bytes.isLayer Bytes.isDriver Bytes.isKind Bytes.isCosts Bytes.isNode Timing.layer Timing.edgeRes Timing.edgeCap Timing.loadFrom Timing.load Timing.edgeDelay Timing.gateRes Timing.gateIntrinsic Timing.rootVia Timing.gateDelay Timing.terminalVia Timing.wireDelay Timing.requiredFrom Timing.required Timing.slack Timing.meets Timing.edgeCost Timing.cost Timing.stageCost Timing.stageCosts Grain.roundedCost Grain.meetingPlans Grain.leastRounded Grain.floor Grain.qualifies Grain.grainExponent Grain.chosen Grain.columns Grain.columnsNeeded Reading.field Reading.children Reading.buffers Reading.hasRoom Reading.isParent Reading.nodeField Reading.nodesFrom Reading.isWhole Reading.readTo Reading.read Reading.check Judging.judged Judging.judge Planning.planned Planning.cleared Planning.plan Text.decimalFrom Text.decimal Program.refusedLine Block.dueNet Block.netField Block.payload Block.netsFrom Block.block Block.lengthOn Block.overPlanned Block.refusedNets Block.totals Block.noTotals Block.report Block.countLine Block.metLine Block.metFrom Block.totalsText Block.answerText Block.reportText
 settled = tt

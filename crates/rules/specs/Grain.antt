@@ -1,4 +1,4 @@
--- 01, 'Rounded cost and the grain': rounded cost, V(k), the grain, the plan chosen, the columns.
+-- 01, 'Rounded cost and the grain': rounded cost, V(k), the grain, the plan chosen, the columns; and the floor (02, wish 6).
 -- Rounding costs down to a grain and searching by rounded cost: source 000, section IV.B; source 001, section 3.
 use mathlib.Core.Bool.{Bool, _&&_}
 use mathlib.Core.Option.{Option}
@@ -29,6 +29,10 @@ meetingPlans n = keep (meets n) (plans n)
 -- V(k): the least rounded cost of the plans that meet timing.
 unfoldable pub leastRounded : Net → ℕ → ℕ
 leastRounded n k = lowest (roundedCost n k) (meetingPlans n)
+
+-- The floor at k: g × V(k), with g = 2^k (02, wish 6). Costs are rounded down, so no plan that meets timing costs less (source 001, section 6.3).
+unfoldable pub floor : Net → ℕ → ℕ
+floor n k = 2 ^ k * leastRounded n k
 
 -- The test of k at share p/q: q × s × (g − 1) ≤ p × g × V(k).
 unfoldable pub qualifies : Net → ℕ → ℕ → ℕ → Bool

@@ -11,7 +11,7 @@ use Rattle.laws.specs.Basic.{if_then_else_, within}
 use Rattle.rules.specs.declared.Planned.{Planned}
 use Rattle.rules.specs.Tree.{Net, stages, isPlan}
 use Rattle.rules.specs.Timing.{slack, meets, cost}
-use Rattle.rules.specs.Grain.{meetingPlans, grainExponent, chosen, columns, columnsNeeded}
+use Rattle.rules.specs.Grain.{meetingPlans, floor, grainExponent, chosen, columns, columnsNeeded}
 use Rattle.rules.specs.Reading.{Answer, accept, refuse, _>>=_, _>>_, _unless_, read}
 
 -- p is at most 1,000 and q from 1 to 1,000 (refusal 9).
@@ -41,12 +41,13 @@ planned bs p q entries room = do
   x ← taken (chosen n (grainExponent n p q))
   accept (record { net = n; k = grainExponent n p q; plan = x })
 
--- All that a call answers and leaves behind but for the floor.
+-- All that a call answers and leaves behind.
 pub record PlanAnswer : Type 0 where
   pub refusal : ℕ
   pub cost : ℕ
   pub slack : ℤ
   pub k : ℕ
+  pub floor : ℕ
   pub buffer : List ℕ
   pub table : List ℤ
 
@@ -54,8 +55,8 @@ pub record PlanAnswer : Type 0 where
 unfoldable pub cleared : List ℤ → List ℤ
 cleared table = replicate (length table) (pos 0)
 
--- What planning answers and leaves. Accepted: cost and slack of the plan, k; the plan's s bytes open the buffer, later bytes keep their values; the
--- table is all zero. Refused: the number and zeros; the buffer is unchanged, and so is the table, which after 12 is all zero.
+-- What planning answers and leaves. Accepted: cost and slack of the plan, k, and the floor g × V(k) (02, wish 6); the plan's s bytes open the buffer, later
+-- bytes keep their values; the table is all zero. Refused: the number and zeros; the buffer is unchanged, and so is the table, which after 12 is all zero.
 unfoldable pub plan : List ℕ → ℕ → ℕ → List ℤ → List ℕ → PlanAnswer
 plan bs p q table buffer = elim (planned bs p q (length table) (length buffer)) [
   | accept c ↦ record {
@@ -63,26 +64,30 @@ plan bs p q table buffer = elim (planned bs p q (length table) (length buffer)) 
     cost = cost (c .net) (c .plan);
     slack = slack (c .net) (c .plan);
     k = c .k;
+    floor = floor (c .net) (c .k);
     buffer = c .plan ++ drop (length (c .plan)) buffer;
     table = cleared table;
   }
-  | refuse r ↦ record { refusal = r; cost = 0; slack = pos 0; k = 0; buffer = buffer; table = if eqb r 12 then cleared table else table }
+  | refuse r ↦ record { refusal = r; cost = 0; slack = pos 0; k = 0; floor = 0; buffer = buffer; table = if eqb r 12 then cleared table else table }
 ]
 
--- The floor of an accepted call is decided by no definition: these two bounds are all that is promised of it. It is at most the cost of every plan
--- of the net that meets timing, and q × cost is at most (q + p) × floor.
-pub record IsFloor (n : Net) (p q planCost floor : ℕ) : Type 0 where
-  pub below : (x : List ℕ) → isPlan n x ≡ true → meets n x ≡ true → floor ≤ cost n x
-  pub near : q * planCost ≤ (q + p) * floor
-
--- An answer with what it leaves in buffer and table, but for the floor.
+-- An answer with what it leaves in buffer and table.
 abbrev pub planAnswer : Planned → List ℕ → List ℤ → PlanAnswer
-planAnswer r buffer table = record { refusal = r .refusal; cost = r .cost; slack = r .slack; k = r .k; buffer = buffer; table = table }
+planAnswer r buffer table =
+    record { refusal = r .refusal; cost = r .cost; slack = r .slack; k = r .k; floor = r .floor; buffer = buffer; table = table }
 
--- The floor's promise: on acceptance the two bounds, for the net that the bytes hold; 0 on a refusal.
-pub record FloorPromise (bs : List ℕ) (p q : ℕ) (r : Planned) : Type 0 where
-  pub bounded : (n : Net) → read bs ≡ accept n → r .refusal ≡ 0 → IsFloor n p q (r .cost) (r .floor)
-  pub zero-refused : (r .refusal ≡ 0 → ⊥) → r .floor ≡ 0
+-- The two bounds of 01 on a floor: it is at most the cost of every plan of the net that meets timing, and q × cost is at most (q + p) × floor.
+pub record IsFloor (n : Net) (p q planCost bound : ℕ) : Type 0 where
+  pub below : (x : List ℕ) → isPlan n x ≡ true → meets n x ≡ true → bound ≤ cost n x
+  pub near : q * planCost ≤ (q + p) * bound
+
+-- What the floor of an answer is good for. That it holds of every answer that planning gives is `floor-promise` (crates/demands/specs/Floor.antt).
+pub record FloorPromise (bs : List ℕ) (p q : ℕ) (a : PlanAnswer) : Type 0 where
+  -- On acceptance the two bounds, for the net that the bytes hold.
+  pub bounded : (n : Net) → read bs ≡ accept n → a .refusal ≡ 0 → IsFloor n p q (a .cost) (a .floor)
+  -- It is never above the cost, so that it may be taken off the cost; at share 0 it is the cost.
+  pub below-cost : a .floor ≤ a .cost
+  pub exact : p ≡ 0 → a .floor ≡ a .cost
 
 -- s plus 2qs/p rounded up.
 unfoldable pub enoughColumns : ℕ → ℕ → ℕ → ℕ

@@ -77,7 +77,8 @@ pub struct Judged {
     pub slack: i64,
 }
 
-// What planning answers (01, Planning): a refusal number, 0 if accepted, the plan's cost and slack, k of the grain 2^k, and a floor.
+// What planning answers (01, Planning): a refusal number, 0 if accepted, the plan's cost and slack, k of the grain 2^k, and the floor
+// 2^k × V(k) (02, wish 6).
 pub struct Planned {
     pub refusal: u8,
     pub cost: u64,

@@ -17,7 +17,7 @@ use words::WORDS;
 ghost use mathlib.Core.Path.{_≡_};
 ghost use Rattle.rules.specs.Reading.{check};
 ghost use Rattle.rules.specs.Judging.{judge};
-ghost use Rattle.rules.specs.Planning.{planAnswer, plan, FloorPromise, Demand2, Demand3};
+ghost use Rattle.rules.specs.Planning.{planAnswer, plan, Demand2, Demand3};
 ghost use Rattle.rules.specs.Chart.{tableEntries};
 ghost use Rattle.rules.specs.Block.{report, BlockPromise};
 ghost use Rattle.planning.specs.Calls.{PlansNet};
@@ -133,12 +133,11 @@ fn planned(net: &[u8], p: u64, q: u64, table: &mut [i64], buffer: &mut [u8]) -> 
     plan_net(&words, layers, nodes, stages, p, q, table, buffer)
 }
 
-// Planning (01, Planning) with share p/q: the plan chosen into the first bytes of `buffer`, its cost and slack, k of the grain and a floor; or a refusal number
-// and zeros. The clauses: the answer and what it leaves are those of the definition; the floor's two bounds; demand 2 for
-// planning; demand 3, whole.
+// Planning (01, Planning) with share p/q: the plan chosen into the first bytes of `buffer`, its cost and slack, k of the grain and the floor g × V(k) (02, wish
+// 6); or a refusal number and zeros. The clauses: all that it answers and leaves is what the definition says; demand 2 for planning; demand 3, whole. What the
+// floor is good for follows from the definition: `floor-promise` in crates/demands/specs/Floor.antt.
 pub fn plan(net: &[u8], p: u64, q: u64, table: &mut [i64], buffer: &mut [u8]) -> Planned
     ensures { λ r. ⌜ planAnswer r (now (buffer .exit)) (now (table .exit)) ≡ plan (now (net .entry)) p q (now (table .entry)) (now (buffer .entry)) ⌝ }
-    ensures { λ r. ⌜ FloorPromise (now (net .entry)) p q r ⌝ }
     ensures { λ r. ⌜ Demand2 (now (net .entry)) p q (now (table .entry)) (now (buffer .entry)) (now (buffer .exit)) r ⌝ }
     ensures { λ r. ⌜ Demand3 (now (net .entry)) p q (now (table .entry)) (now (buffer .entry)) (now (buffer .exit)) r ⌝ }
 {
@@ -161,10 +160,6 @@ pub extern "C" fn vorphiel_plan(
     ensures { λ r. ⌜
         planAnswer (record { refusal = r; cost = now (cost .exit); slack = now (slack .exit); k = now (k .exit); floor = now (floor .exit) })
         (now (buffer .exit)) (now (table .exit)) ≡ plan (now (net .entry)) p q (now (table .entry)) (now (buffer .entry))
-        ⌝ }
-    ensures { λ r. ⌜
-        FloorPromise (now (net .entry)) p q
-        (record { refusal = r; cost = now (cost .exit); slack = now (slack .exit); k = now (k .exit); floor = now (floor .exit) })
         ⌝ }
     ensures { λ r. ⌜
         Demand2 (now (net .entry)) p q (now (table .entry)) (now (buffer .entry)) (now (buffer .exit))

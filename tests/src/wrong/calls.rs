@@ -181,6 +181,13 @@ impl Wrong {
             Some(Other::FloorTooSmall) => terms.least_floor(cost) - 1,
             Some(Other::FloorLeast) => terms.least_floor(cost),
             Some(Other::FloorTooLarge) if k > 0 => self.cheapest(&timed, cost).map_or(rounded, |cost| cost + 1),
+            Some(Other::FloorCheapest) => self.cheapest(&timed, cost).unwrap_or(rounded),
+            Some(Other::FloorWithoutGrain) => terms.least as u64,
+            Some(Other::FloorOfKBefore) => self.floor_at(&timed, terms.k + 1, terms.least),
+            Some(Other::FloorAsWhole) => cost >> k << k,
+            Some(Other::FloorAtShareZero) if terms.p > 0 => 0,
+            Some(Other::Floor16) => rounded & 0xFFFF,
+            Some(Other::Floor24) => rounded & 0xFF_FFFF,
             _ => rounded,
         };
         Planned {

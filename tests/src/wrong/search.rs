@@ -52,6 +52,12 @@ impl Wrong {
         Found::Short
     }
 
+    /// g × V(k) for a k at which V(k) is no more than `most`.
+    pub fn floor_at(&self, timed: &Timed, k: u32, most: usize) -> u64 {
+        let (_, least) = self.round(timed, k, most + 1, &[]);
+        (least.expect("a plan that meets timing") as u64) << k
+    }
+
     fn columns(&self, length: usize, s: usize) -> usize {
         let length = if self.makes(Other::Table16) { low_bits(length, 16) } else { length };
         let columns = length / (s + 2);

@@ -19,7 +19,7 @@ same-length-2 c = search needs
 returns : tie.Need-returns
 returns c =
     let E = c .before .before .before .planned .ensures in
-    (E .same, (E .floor-kept, (demand-2 _ _ _ _ _ _ (E .same), demand-3 _ _ _ _ _ _ (E .same))))
+    (E, (demand-2 _ _ _ _ _ _ E, demand-3 _ _ _ _ _ _ E))
 
 pub plan-spec : {M : Type 1} → statement M
 plan-spec = tie.close (tie.spec planned-requires same-length same-length-2 returns)
