@@ -48,7 +48,7 @@ uint8_t vorphiel_judge(const uint8_t *net, size_t net_len, const uint8_t *plan, 
  *   floor   2^k times the least rounded cost of the plans of the net that meet timing; each stage's cost is divided by 2^k and rounded down
  *   table   all zero, every entry
  * The floor is at most the cost of every plan of the net that meets timing, and q * cost <= (q + p) * floor. It is never above cost, so that cost - floor is no
- * less than 0, and with p = 0 it is cost. Whoever plans the same net bytes with the same share and is accepted gets the same cost, slack, k and floor.
+ * less than 0, and with p = 0 it is cost. Whoever plans the same net bytes with the same p and q and is accepted gets the same cost, slack, k and floor.
  *
  * So q * cost <= (q + p) * (the cost of every plan of the net that meets timing). Among the plans that meet timing with the least cost rounded to the grain,
  * the plan is the first in the order of stage 0's layer, then stage 1's, and so on.

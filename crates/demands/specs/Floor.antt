@@ -71,7 +71,7 @@ told-alike {p = p} {q = q} {c = c} {d = d} S R =
     let k-is : c .k ≡ d .k = S .exponent-is ∙ (ap (λ (n : Net). grainExponent n p q) net-is ∙ sym (R .exponent-is)) in
     rw (net-is, plan-is, k-is) refl
 
--- Two accepted answers for the same net bytes and share are the same, whatever table and plan buffer were lent.
+-- Two accepted answers for the same net bytes, p and q are the same, whatever table and plan buffer were lent.
 pub answers-alike : (bs : List ℕ) (p q : ℕ) (table table′ : List ℤ) (buffer buffer′ : List ℕ) → plan bs p q table buffer .refusal ≡ 0
     → plan bs p q table′ buffer′ .refusal ≡ 0 → answerOf (plan bs p q table buffer) ≡ answerOf (plan bs p q table′ buffer′)
 answers-alike bs p q table table′ buffer buffer′ z z′ =
