@@ -639,9 +639,9 @@ pub fn plan_net(net: &Net, search: &dyn Search, p: u64, q: u64, table: &mut [i64
 }
 
 /// "The floor is at most the cost of every plan of the net that meets timing, and q × cost is at most (q + p) ×
-/// floor." `cheapest` is the cost of the cheapest plan that meets timing.
-fn is_floor(p: u64, q: u64, cost: u64, floor: u64, cheapest: i128) -> bool {
-    floor as i128 <= cheapest && q as i128 * cost as i128 <= (q as i128 + p as i128) * floor as i128
+/// floor." `known` is the cost of a plan that meets timing, the cheapest where that one is known.
+fn is_floor(p: u64, q: u64, cost: u64, floor: u64, known: i128) -> bool {
+    floor as i128 <= known && q as i128 * cost as i128 <= (q as i128 + p as i128) * floor as i128
 }
 
 /// Results have 64 bits.

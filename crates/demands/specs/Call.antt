@@ -128,36 +128,28 @@ module _ (bs : List ℕ) (p q entries room : ℕ) where
     unfolding planned
     all-pass t9 t10 t11 t12 o = simp (h, t9, t10, t11, t12, o)
 
+-- What is answered for a choice,
+abbrev pub answerFor : Choice → Planned
+answerFor c = record { refusal = 0; cost = cost (c .net) (c .plan); slack = slack (c .net) (c .plan); k = c .k; floor = floor (c .net) (c .k) }
+
+-- and on a refusal: the number and zeros.
+abbrev pub refusedWith : ℕ → Planned
+refusedWith r = record { refusal = r; cost = 0; slack = pos 0; k = 0; floor = 0 }
+
 -- The answer of the definition, by what `planned` gives.
 module _ (bs : List ℕ) (p q : ℕ) (table : List ℤ) (buffer : List ℕ) where
   pub plan-accepted : {c : Choice} → planned bs p q (length table) (length buffer) ≡ accept c
-      → plan bs p q table buffer ≡ record {
-        refusal = 0;
-        cost = cost (c .net) (c .plan);
-        slack = slack (c .net) (c .plan);
-        k = c .k;
-        floor = floor (c .net) (c .k);
-        buffer = c .plan ++ drop (length (c .plan)) buffer;
-        table = cleared table;
-      }
+      → plan bs p q table buffer ≡ planAnswer (answerFor c) (c .plan ++ drop (length (c .plan)) buffer) (cleared table)
   unfolding plan
   plan-accepted e = rw (e, plan)
 
-  pub plan-refuses : {r : ℕ} → planned bs p q (length table) (length buffer) ≡ refuse r
-      → plan bs p q table buffer ≡ record {
-        refusal = r;
-        cost = 0;
-        slack = pos 0;
-        k = 0;
-        floor = 0;
-        buffer = buffer;
-        table = if eqb r 12 then cleared table else table;
-      }
+  pub plan-refused : {r : ℕ} → planned bs p q (length table) (length buffer) ≡ refuse r
+      → plan bs p q table buffer ≡ planAnswer (refusedWith r) buffer (if eqb r 12 then cleared table else table)
   unfolding plan
-  plan-refuses e = rw (e, plan)
+  plan-refused e = rw (e, plan)
 
   refusal-is : {r : ℕ} → planned bs p q (length table) (length buffer) ≡ refuse r → plan bs p q table buffer .refusal ≡ r
-  refusal-is e = ap (λ (a : PlanAnswer). a .refusal) (plan-refuses e)
+  refusal-is e = ap (λ (a : PlanAnswer). a .refusal) (plan-refused e)
 
   -- An answer that is no refusal was settled.
   pub answered-choice : plan bs p q table buffer .refusal ≡ 0 → (c : Choice) × (planned bs p q (length table) (length buffer) ≡ accept c)

@@ -1,6 +1,6 @@
 -- Demand 3: the plan is near the cheapest. The floor is the grain times V(k): rounding never adds, so it is at most the cost of every plan that meets
 -- timing, and it takes less than one grain off each stage, which the test of k keeps within the share (01, Planning; source 000, section IV.B).
-use mathlib.Core.Path.{_≡_, ap, _∙_}
+use mathlib.Core.Path.{_≡_, refl, ap, _∙_}
 use mathlib.Core.Bool.{true}
 use mathlib.Core.Option.{some}
 use mathlib.Core.List.{List}
@@ -38,7 +38,11 @@ module _ {n : Net} (A : Accepted n) (p q : ℕ) (x : List ℕ) (is : chosen n (g
   pub near-cheapest : (y : List ℕ) → isPlan n y ≡ true → meets n y ≡ true → q * cost n x ≤ (q + p) * cost n y
   near-cheapest = floor-near chosen-floor
 
+-- What is within share 0 of a number is no more than it.
+pub within-zero : {p q planCost bound : ℕ} → p ≡ 0 → 1 ≤ q → q * planCost ≤ (q + p) * bound → planCost ≤ bound
+within-zero {q = q} z h e = le-of-mul-le-mul-left (rw (z, add-zero q) at e) h
+
 -- Demand 3 at a share of 0: the plan chosen is the cheapest (01, Rounded cost and the grain).
 pub cheapest : {n : Net} (A : Accepted n) (q : ℕ) → 1 ≤ q → (x : List ℕ) → chosen n (grainExponent n 0 q) ≡ some x
     → (y : List ℕ) → isPlan n y ≡ true → meets n y ≡ true → cost n x ≤ cost n y
-cheapest A q h x is y p m = le-of-mul-le-mul-left (rw (add-zero q) at (near-cheapest A 0 q x is y p m)) h
+cheapest A q h x is y p m = within-zero refl h (near-cheapest A 0 q x is y p m)

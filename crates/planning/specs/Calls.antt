@@ -25,7 +25,7 @@ use Rattle.words.specs.Words.{netIn}
 use Rattle.words.specs.Held.{Held, held-accepted}
 use Rattle.tree.specs.Plans.{Fitting, fitting}
 use Rattle.demands.specs.StageNumbers.{treeOf}
-use Rattle.demands.specs.Call.{share-in, all-late, all-pass, plan-accepted, plan-refuses}
+use Rattle.demands.specs.Call.{share-in, all-late, all-pass, refusedWith, plan-accepted, plan-refused}
 use Rattle.slices.specs.Laid.{Laid}
 use Rattle.rounds.specs.Problem.{Problem}
 use Rattle.search.specs.Planned.{IsLate, IsShort, IsFound}
@@ -50,10 +50,6 @@ pub problem-in : {w : List ℕ} {nodes layers s p q room : ℕ} → Admitted w n
     → Problem (treeOf (netIn w)) driver wire limit costs s layers a p q
 problem-in G laid e =
     problem-of (held-accepted (G .held)) laid (G .stages-are) (G .held .layers-are) e (G .share .most) (G .share .some-part) (G .share .parts)
-
--- A refusal: the number and zeros.
-abbrev pub refusedWith : ℕ → Planned
-refusedWith r = record { refusal = r; cost = 0; slack = pos 0; k = 0; floor = 0 }
 
 -- The answer with what it leaves in table and buffer is that of 01.
 abbrev pub PlansNet : List ℕ → ℕ → ℕ → List ℤ → List ℤ → List ℕ → List ℕ → Planned → Type 0
@@ -86,12 +82,9 @@ module _ {w : List ℕ} {nodes layers s p q : ℕ} (table : List ℤ) (buffer : 
 
 module _ (bs : List ℕ) (p q : ℕ) (table : List ℤ) (buffer : List ℕ) where
   -- A refusal other than 12 leaves buffer and table as they were.
-  pub plan-refused : {r : ℕ} → planned bs p q (length table) (length buffer) ≡ refuse r → eqb r 12 ≡ false
-      → planAnswer (refusedWith r) buffer table ≡ plan bs p q table buffer
-  plan-refused e d = sym (rw d at (plan-refuses bs p q table buffer e))
-
-  plan-short : planned bs p q (length table) (length buffer) ≡ refuse 12 → planAnswer (refusedWith 12) buffer (cleared table) ≡ plan bs p q table buffer
-  plan-short e = sym (plan-refuses bs p q table buffer e)
+  pub kept-answer : {r : ℕ} → planned bs p q (length table) (length buffer) ≡ refuse r → eqb r 12 ≡ false
+      → PlansNet bs p q table table buffer buffer (refusedWith r)
+  kept-answer e d = sym (rw d at (plan-refused bs p q table buffer e))
 
   plan-done : {c : Choice} {k f : ℕ} {after : List ℤ} {bufferAfter : List ℕ} → planned bs p q (length table) (length buffer) ≡ accept c → k ≡ c .k
       → f ≡ floor (c .net) (c .k) → after ≡ replicate (length table) (pos 0) → bufferAfter ≡ c .plan ++ drop (length (c .plan)) buffer
@@ -116,12 +109,14 @@ module _ (bs : List ℕ) (p q : ℕ) (table : List ℤ) (buffer : List ℕ) wher
         → PlansNet bs p q table after buffer bufferAfter (refusedWith 11)
     late-answer I =
         let e = all-late bs p q (length table) (length buffer) hold (share-passes (G .share)) room-passes (none-meets (held-accepted (G .held)) I) in
-        rw (I .table-kept, I .plan-kept) (plan-refused e refl)
+        rw (I .table-kept, I .plan-kept) (kept-answer e refl)
 
     pub short-answer : {after : List ℤ} {bufferAfter : List ℕ} → IsShort (treeOf n) p q s table after buffer bufferAfter
         → PlansNet bs p q table after buffer bufferAfter (refusedWith 12)
     unfolding cleared
-    short-answer I = rw (I .cleared, I .plan-kept) (plan-short (planned-12 (too-short (held-accepted (G .held)) (G .stages-are) I)))
+    short-answer I =
+        let e = planned-12 (too-short (held-accepted (G .held)) (G .stages-are) I) in
+        rw (I .cleared, I .plan-kept) (sym (plan-refused bs p q table buffer e))
 
     module _ {k g v : ℕ} {after : List ℤ} {bufferAfter : List ℕ} (I : IsFound (treeOf n) p q s table after buffer bufferAfter k g v) where
       abbrev pub F : Served (held-accepted (G .held)) p q (length table) k g v buffer bufferAfter

@@ -18,11 +18,12 @@ ghost use Rattle.rules.specs.Bytes.{maxLayers, maxStages};
 ghost use Rattle.rules.specs.Reading.{accept, read};
 ghost use Rattle.words.specs.Words.{netIn};
 ghost use Rattle.demands.specs.StageNumbers.{treeOf};
+ghost use Rattle.demands.specs.Call.{refusedWith};
 ghost use Rattle.words.specs.Held.{Held};
 ghost use Rattle.tree.specs.Staged.{Staged};
 ghost use Rattle.slices.specs.Laid.{Laid, noLimit};
 ghost use Rattle.search.specs.Planned as search;
-ghost use Rattle.planning.specs.Calls.{Admitted, refusedWith, PlansNet};
+ghost use Rattle.planning.specs.Calls.{Admitted, PlansNet};
 
 // What stands for no limit at all: no time that is compared with it is later.
 const NO_LIMIT: i64 = 0x4000_0000_0000_0000;

@@ -14,12 +14,12 @@ use Rattle.rules.specs.Reading.{refuse, read}
 use Rattle.rules.specs.Planning.{maxShare, planned}
 use Rattle.facts.specs.Answers.{turned-refused}
 use Rattle.facts.specs.Refusals.{read-numbered}
-use Rattle.demands.specs.Call.{share-out, unread-refused}
+use Rattle.demands.specs.Call.{share-out, unread-refused, refusedWith}
 use Rattle.reader.specs.Net.{countsOf, counts, NetRead}
 use Rattle.reader.specs.declared.Net.the-variants as net
 use Rattle.reader.specs.Kept.{Kept}
 use Rattle.words.specs.Words.{netIn}
-use Rattle.planning.specs.Calls.{Share, Admitted, refusedWith, PlansNet, plan-refused}
+use Rattle.planning.specs.Calls.{Share, Admitted, PlansNet, kept-answer}
 
 pub share-of : {p q : ℕ} → leb p maxShare && within 1 maxShare q ≡ true → Share p q
 share-of {p} {q} e = let (most, some-part, parts) = share-out p q e in record { most = most; some-part = some-part; parts = parts }
@@ -27,7 +27,7 @@ share-of {p} {q} e = let (most, some-part, parts) = share-out p q e in record { 
 module _ (bs : List ℕ) (p q : ℕ) (table : List ℤ) (buffer : List ℕ) where
   -- a refusal before the search
   early : {r : ℕ} → planned bs p q (length table) (length buffer) ≡ refuse r → r < 12 → PlansNet bs p q table table buffer buffer (refusedWith r)
-  early {r} e low = plan-refused bs p q table buffer e (ne-eqb r 12 (λ d. omega arith))
+  early {r} e low = kept-answer bs p q table buffer e (ne-eqb r 12 (λ d. omega arith))
 
   pub plan-unread : {r : ℕ} {keep : Bool} {w : List ℕ} → NetRead bs keep (net.Refused r) w → PlansNet bs p q table table buffer buffer (refusedWith r)
   unfolding counts

@@ -3,7 +3,7 @@ use borrow.Author.Needs.{needs}
 use mathlib.Core.Path.{ap, sym, _∙_}
 use borrow.Author.Tests.{not-true, not-false, leb-true, leb-false}
 use Rattle.reader.specs.Kept.{Kept, held-read}
-use Rattle.planning.specs.Calls.{refusedWith}
+use Rattle.demands.specs.Call.{refusedWith}
 use Rattle.reader.specs.Net.{netRefusal}
 use Rattle.vorphiel.proofs.Planning.{plan-unread, plan-9, plan-10, admitted}
 use Rattle.vorphiel.proofs.planned.Statement.{statement}
