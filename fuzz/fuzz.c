@@ -2,10 +2,11 @@
  *
  *     fuzz SEED SECONDS NET...
  *
- * Random nets are made from the nets in the files, from nets grown here, and from rubbish; vorphiel_check, vorphiel_judge and vorphiel_plan are called on them
- * with random plans, shares, tables and plan buffers, vorphiel_report on blocks of them, whole and damaged, and vorphiel_table_entries with random numbers. A
- * net without vias is tried in both editions, and via resistances are raised. After each call it is seen whether what the header promises came true. There is
- * no second planner here: the calls are held against each other and against the header (the comparison with a plain search is in tests/).
+ * Random nets are made from the nets in the files, from nets grown here, and from rubbish; vorphiel_check, vorphiel_judge, vorphiel_plan and
+ * vorphiel_plan_rounds are called on them with random plans, shares, rounds, tables and plan buffers, vorphiel_report on blocks of them, whole and damaged, and
+ * vorphiel_table_entries with random numbers. A net without vias is tried in both editions, and via resistances are raised. After each call it is seen whether
+ * what the header promises came true. There is no second planner here: the calls are held against each other and against the header (the comparison with a plain
+ * search is in tests/).
  *
  * The library is a finished archive that no sanitizer has seen. So every buffer is lent flush with the start or the end of its pages, with pages that may not
  * be touched before and behind, and what is only to be read stands in pages that cannot be written: a stray read or write ends in a signal.
@@ -40,6 +41,8 @@ enum {
     MOST_NODES = 256,        /* the driver included */
     MOST_SHARE = 1000,
     MOST_K = 28,
+    MOST_ROUNDS = MOST_K + 1,
+    NUMBERS = 15,            /* 0 and the refusal numbers */
     POOL = 64,               /* nets that are kept to make others from */
     PATIENCE = 10,           /* seconds after which a call is a fault */
 };
@@ -168,18 +171,27 @@ static void protect(struct lent *l, int how)
 
 /* ---- The call under way, and the report of a fault ---- */
 
-/* The first three are on a net and have refusal numbers; the chart's call has neither, and the report's is on a block. */
-enum { CHECK, JUDGE, PLANNING, CALLS, TABLE_ENTRIES = CALLS, REPORT };
+/* The first four are on a net and have refusal numbers; the chart's call has neither, and the report's is on a block. */
+enum { CHECK, JUDGE, PLANNING, ROUNDS, CALLS, TABLE_ENTRIES = CALLS, REPORT };
 
-static const char *const CALL_NAMES[] = {"vorphiel_check", "vorphiel_judge", "vorphiel_plan", "vorphiel_table_entries", "vorphiel_report"};
+static const char *const CALL_NAMES[] = {
+    "vorphiel_check", "vorphiel_judge", "vorphiel_plan", "vorphiel_plan_rounds", "vorphiel_table_entries", "vorphiel_report",
+};
+
+/* What is asked of a call that plans: of PLANNING the share p/q, of ROUNDS the number r. */
+struct asked {
+    int call;
+    uint64_t p, q, r;
+    size_t entries, buffer;
+};
 
 static struct {
     volatile sig_atomic_t under_way;
     int call;
     uint64_t number; /* of the call, from 1 */
     uint64_t seed;
-    int shared;      /* the net was planned, with this share: */
-    uint64_t p, q;
+    int planned;     /* the net was planned, and this was asked: */
+    struct asked asked;
     uint64_t chart_s, chart_q; /* what vorphiel_table_entries was asked last */
 } now;
 
@@ -227,6 +239,17 @@ static void say_lent(const struct lent *l, size_t unit)
     say(l->at == l->pages ? ", flush with the start of its pages\n" : ", flush with the end of its pages\n");
 }
 
+static void say_asked(void)
+{
+    if (now.asked.call == ROUNDS) {
+        say_number("# rounds: r ", now.asked.r);
+    } else {
+        say_number("# share: p ", now.asked.p);
+        say_number(", q ", now.asked.q);
+    }
+    say("\n");
+}
+
 /* The lent buffers and the numbers of the call; of the last planning too, if what it gave is being looked at. */
 static void say_call(void)
 {
@@ -245,11 +268,9 @@ static void say_call(void)
         say_lent(&lent[PLAN], 1);
     if (now.call == JUDGE)
         say_bytes("#   ", &lent[PLAN]);
-    if (now.shared) {
+    if (now.planned) {
         say_lent(&lent[TABLE], sizeof(int64_t));
-        say_number("# share: p ", now.p);
-        say_number(", q ", now.q);
-        say("\n");
+        say_asked();
     }
 }
 
@@ -344,20 +365,20 @@ struct net {
     uint8_t bytes[MOST_NET];
 };
 
-/* The results are those of the header, in its order. */
 struct answer {
     uint64_t refusal;
     uint64_t results[4];
 };
 
-enum { NODES, STAGES, LAYERS };             /* of vorphiel_check */
+enum { NODES, STAGES, LAYERS };              /* of vorphiel_check */
 enum { COST, SLACK, GRAIN_EXPONENT, FLOOR }; /* of vorphiel_plan; the first two also of vorphiel_judge */
+enum { ROUNDS_RUN = GRAIN_EXPONENT };        /* of vorphiel_plan_rounds, beside cost, slack and floor */
 
 /* How often each call answered with each number. */
-static uint64_t met[CALLS][13];
+static uint64_t met[CALLS][NUMBERS];
 
 /* Bit n: the call may answer n. */
-static const unsigned ALLOWED[] = {0x007F, 0x01FF, 0x1E7F};
+static const unsigned ALLOWED[] = {0x007F, 0x01FF, 0x1E7F, 0x5C7F};
 
 /* What stands in tables, plan buffers and results before a call; no word of it is 0. */
 static uint64_t rubbish[MOST_TABLE + 64];
@@ -388,7 +409,7 @@ static struct answer finish(unsigned refusal, int results)
     struct answer answer = {.refusal = refusal};
     now.under_way = 0;
     protect(&lent[NET], PROT_READ | PROT_WRITE);
-    must(refusal <= 12 && (ALLOWED[now.call] >> refusal & 1), "a refusal number that the call does not have");
+    must(refusal < NUMBERS && (ALLOWED[now.call] >> refusal & 1), "a refusal number that the call does not have");
     met[now.call][refusal]++;
     must(margins_kept(&lent[NET]), "bytes beside the net were changed");
     for (int i = 0; i < results; i++) {
@@ -401,7 +422,7 @@ static struct answer finish(unsigned refusal, int results)
 
 static struct answer check(const struct net *net)
 {
-    now.shared = 0;
+    now.planned = 0;
     begin(CHECK, net);
     struct answer answer = finish(vorphiel_check(lent[NET].at, lent[NET].len, result(NODES), result(STAGES), result(LAYERS)), 3);
     if (answer.refusal == 0) {
@@ -424,12 +445,6 @@ static struct answer judge(const struct net *net, const uint8_t *plan, size_t le
     return answer;
 }
 
-/* What is asked of vorphiel_plan. */
-struct asked {
-    uint64_t p, q;
-    size_t entries, buffer;
-};
-
 /* Whether the table is as the header says: all zero after 0 and 12, unchanged after the rest. */
 static int table_right(unsigned refusal, const void *before)
 {
@@ -439,6 +454,23 @@ static int table_right(unsigned refusal, const void *before)
     return all_are(l->at, l->len, 0);
 }
 
+/* The exponent k of the grain of a plan, or of the last round. */
+static uint64_t exponent(struct asked asked, const struct answer *found)
+{
+    return asked.call == ROUNDS ? MOST_ROUNDS - found->results[ROUNDS_RUN] : found->results[GRAIN_EXPONENT];
+}
+
+/* Makes the call with what was lent. */
+static unsigned ask(struct asked asked)
+{
+    int64_t *table = (int64_t *)(void *)lent[TABLE].at;
+    if (asked.call == ROUNDS)
+        return vorphiel_plan_rounds(lent[NET].at, lent[NET].len, asked.r, table, asked.entries, lent[PLAN].at, asked.buffer, result(COST), result(SLACK),
+                                    result(FLOOR), result(ROUNDS_RUN));
+    return vorphiel_plan(lent[NET].at, lent[NET].len, asked.p, asked.q, table, asked.entries, lent[PLAN].at, asked.buffer, result(COST), result(SLACK),
+                         result(GRAIN_EXPONENT), result(FLOOR));
+}
+
 /* Plans a net of s stages (0 if it cannot be read); the plan found goes to `plan`. */
 static struct answer plan_net(const struct net *net, size_t s, struct asked asked, uint8_t *plan)
 {
@@ -446,13 +478,12 @@ static struct answer plan_net(const struct net *net, size_t s, struct asked aske
     const uint8_t *buffer_before = some_rubbish();
     lend(&lent[TABLE], table_before, asked.entries * sizeof(int64_t));
     lend(&lent[PLAN], buffer_before, asked.buffer);
-    now.shared = 1;
-    now.p = asked.p;
-    now.q = asked.q;
-    begin(PLANNING, net);
-    unsigned refusal = vorphiel_plan(lent[NET].at, lent[NET].len, asked.p, asked.q, (int64_t *)(void *)lent[TABLE].at, asked.entries, lent[PLAN].at,
-                                     asked.buffer, result(COST), result(SLACK), result(GRAIN_EXPONENT), result(FLOOR));
+    now.planned = 1;
+    now.asked = asked;
+    begin(asked.call, net);
+    unsigned refusal = ask(asked);
     struct answer answer = finish(refusal, 4);
+    must(refusal != 0 || exponent(asked, &answer) <= MOST_K, "a grain or a number of rounds that there is not");
     must(margins_kept(&lent[TABLE]), "bytes beside the table were changed");
     must(margins_kept(&lent[PLAN]), "bytes beside the plan buffer were changed");
     must(table_right(refusal, table_before), "the table is not as it is to be after this answer");
@@ -1069,14 +1100,20 @@ static uint64_t some_share(uint64_t low)
     }
 }
 
-static uint64_t wild_share(void)
+/* A number for a place where at most `most` is allowed. */
+static uint64_t wild_number(uint64_t most)
 {
     switch (below(4)) {
     case 0: return 0;
-    case 1: return MOST_SHARE + 1;
+    case 1: return most + below(3);
     case 2: return UINT64_MAX - below(3);
     default: return any() >> below(64);
     }
+}
+
+static uint64_t some_rounds(void)
+{
+    return one_in(4) ? MOST_ROUNDS : (uint64_t)between(1, MOST_ROUNDS);
 }
 
 /* A table length that is never too short (the chart's number, or the header's rule), or 0 if there is none or it is too long to be lent here. */
@@ -1102,34 +1139,72 @@ static size_t some_entries(size_t s, struct asked asked)
     }
 }
 
-static struct asked make_asked(size_t s)
+static struct asked make_asked(int call, size_t s)
 {
-    struct asked asked = {.p = some_share(0), .q = some_share(1), .buffer = s};
+    struct asked asked = {.call = call, .p = some_share(0), .q = some_share(1), .r = some_rounds(), .buffer = s};
     if (one_in(12))
-        asked.p = wild_share();
+        asked.p = wild_number(MOST_SHARE);
     if (one_in(12))
-        asked.q = wild_share();
+        asked.q = wild_number(MOST_SHARE);
+    if (one_in(6))
+        asked.r = wild_number(MOST_ROUNDS);
     asked.entries = some_entries(s, asked);
     if (one_in(3))
         asked.buffer = one_in(3) ? below(s + 1) : one_in(2) ? s + below(20) : below(MOST_PLAN);
     return asked;
 }
 
-/* Whether the number is one that planning may give for all that is known. */
-static int planning_refusal_right(const struct answer *counts, struct asked asked, uint64_t refusal)
+/* The number for a share or rounds out of range, 0 if they are in it. */
+static uint64_t range_refusal(struct asked asked)
 {
-    if (counts->refusal != 0)
-        return refusal == counts->refusal;
-    if (asked.p > MOST_SHARE || asked.q < 1 || asked.q > MOST_SHARE)
-        return refusal == 9;
-    if (asked.buffer < counts->results[STAGES])
-        return refusal == 10;
-    return refusal == 0 || refusal == 11 || refusal == 12;
+    if (asked.call == ROUNDS)
+        return asked.r < 1 || asked.r > MOST_ROUNDS ? 14 : 0;
+    return asked.p > MOST_SHARE || asked.q < 1 || asked.q > MOST_SHARE ? 9 : 0;
 }
 
-/* q * cost <= (q + p) * other, whatever the numbers. */
-static int within_share(struct asked asked, uint64_t cost, uint64_t other)
+/* Whether some plan of a net that can be read meets timing: then a table without a column is refused with 12, else 11 comes first. */
+static int some_plan_in_time(const struct net *net, size_t s)
 {
+    uint8_t plan[MOST_STAGES];
+    struct asked asked = {.call = PLANNING, .p = some_share(0), .q = some_share(1), .entries = below(s + 2), .buffer = s};
+    uint64_t refusal = plan_net(net, s, asked, plan).refusal;
+    must(refusal == 11 || refusal == 12, "a table without a column, and neither 11 nor 12");
+    return refusal == 12;
+}
+
+/* What is known of a net: its counts, whether some plan meets timing, and a plan that was judged. */
+struct known {
+    const struct net *net;
+    struct answer counts;
+    int in_time;
+    const uint8_t *plan;
+    struct answer judged;
+};
+
+/* Whether the number is one that planning may give for all that is known; with a column or more only the share's call may still refuse. */
+static int planning_refusal_right(const struct known *known, struct asked asked, uint64_t refusal)
+{
+    size_t s = known->counts.results[STAGES];
+    if (known->counts.refusal != 0)
+        return refusal == known->counts.refusal;
+    if (range_refusal(asked) != 0)
+        return refusal == range_refusal(asked);
+    if (asked.buffer < s)
+        return refusal == 10;
+    if (!known->in_time)
+        return refusal == 11;
+    if (asked.entries < s + 2)
+        return refusal == 12;
+    return refusal == 0 || (refusal == 12 && asked.call == PLANNING);
+}
+
+/* Whether the cost of the plan found for s stages is as near to another cost as it is to be: within the share, q * cost <= (q + p) * other, whatever the numbers;
+ * or above it by s * (g - 1) at most, where g is the grain of the last round. */
+static int near_enough(struct asked asked, const struct answer *found, size_t s, uint64_t other)
+{
+    uint64_t cost = found->results[COST];
+    if (asked.call == ROUNDS)
+        return cost <= other + s * ((UINT64_C(1) << exponent(asked, found)) - 1);
     return (unsigned __int128)asked.q * cost <= (unsigned __int128)(asked.q + asked.p) * other;
 }
 
@@ -1138,8 +1213,6 @@ static int within_share(struct asked asked, uint64_t cost, uint64_t other)
 static int grain_right(struct asked asked, const struct answer *found, size_t s)
 {
     uint64_t k = found->results[GRAIN_EXPONENT];
-    if (k > MOST_K)
-        return 0;
     uint64_t g = UINT64_C(1) << k, floor = found->results[FLOOR], sure = floor < g * s ? 0 : floor - g * s;
     return asked.q * s * (g - 1) <= asked.p * floor && (k == MOST_K || asked.q * s * (2 * g - 1) > asked.p * sure);
 }
@@ -1159,17 +1232,35 @@ static uint64_t rounded_to_grain(const struct net *net, const uint8_t *plan, uin
     return rounded;
 }
 
+/* Whether the number of rounds run is right for the plan found, k being the last: V(k), which the floor tells, is below the number of columns; and if more were
+ * asked for, V(k - 1) is not, so that no plan that meets timing costs less at the next grain. */
+static int rounds_right(const struct net *net, size_t s, struct asked asked, const struct answer *found, const uint8_t *plan)
+{
+    uint64_t k = exponent(asked, found), floor = found->results[FLOOR], columns = asked.entries / (s + 2);
+    if (floor >> k << k != floor || floor >> k >= columns || found->results[ROUNDS_RUN] > asked.r)
+        return 0;
+    return found->results[ROUNDS_RUN] == asked.r || rounded_to_grain(net, plan, k - 1) >> (k - 1) >= columns;
+}
+
 /* What an accepted plan's results must be to another plan of the net: if that one meets timing, its rounded cost is no less than V(k). */
-static void hold_against(const struct net *net, struct asked asked, const struct answer *found, const uint8_t *plan, const struct answer *judged)
+static void hold_against(const struct net *net, size_t s, struct asked asked, const struct answer *found, const uint8_t *plan, const struct answer *judged)
 {
     if (judged->refusal != 0 || (int64_t)judged->results[SLACK] < 0)
         return;
     must(found->refusal != 11, "refusal 11, but a plan was judged that meets timing");
     if (found->refusal != 0)
         return;
-    uint64_t rounded = rounded_to_grain(net, plan, found->results[GRAIN_EXPONENT]);
+    uint64_t rounded = rounded_to_grain(net, plan, exponent(asked, found));
     must(found->results[FLOOR] <= rounded, "the floor is above the grain times the rounded cost of a plan that meets timing");
-    must(within_share(asked, found->results[COST], judged->results[COST]), "the plan costs more than the share allows over another that meets timing");
+    must(near_enough(asked, found, s, judged->results[COST]), "the plan costs more than is allowed over another that meets timing");
+}
+
+/* Whether grain and floor are those of the plan found with a share. */
+static void grain_and_floor_right(const struct net *net, size_t s, struct asked asked, const struct answer *found, const uint8_t *plan)
+{
+    must(grain_right(asked, found, s), "the grain is not the one that belongs to this share and floor");
+    uint64_t rounded = rounded_to_grain(net, plan, found->results[GRAIN_EXPONENT]);
+    must(found->results[FLOOR] == rounded, "the floor is not the grain times the plan's rounded cost");
 }
 
 /* After acceptance: the plan judged, its cost and floor; a neighbour of the plan, one stage on another layer. */
@@ -1182,15 +1273,37 @@ static void plan_keeps_promises(const struct net *net, const struct answer *coun
     must(judged.results[SLACK] == found->results[SLACK], "the slack is not the one that judging gives");
     must((int64_t)found->results[SLACK] >= 0, "the plan found misses timing");
     must(found->results[FLOOR] <= found->results[COST], "the floor is above the cost");
-    must(within_share(asked, found->results[COST], found->results[FLOOR]), "the cost is above the floor by more than the share");
-    must(grain_right(asked, found, s), "the grain is not the one that belongs to this share and floor");
-    uint64_t rounded = rounded_to_grain(net, plan, found->results[GRAIN_EXPONENT]);
-    must(found->results[FLOOR] == rounded, "the floor is not the grain times the plan's rounded cost");
+    must(near_enough(asked, found, s, found->results[FLOOR]), "the cost is above the floor by more than is allowed");
+    if (asked.call == ROUNDS)
+        must(rounds_right(net, s, asked, found, plan), "not as many rounds as were asked for and the table has columns for");
+    else
+        grain_and_floor_right(net, s, asked, found, plan);
+    hold_against(net, s, asked, found, plan, &judged);
     uint8_t neighbour[MOST_STAGES];
     memcpy(neighbour, plan, s);
     neighbour[below(s)] = (uint8_t)below(counts->results[LAYERS]);
     judged = judge_rightly(net, counts, neighbour, s);
-    hold_against(net, asked, found, neighbour, &judged);
+    hold_against(net, s, asked, found, neighbour, &judged);
+}
+
+/* Plans as is asked for, and sees that the refusal is right and the promises are kept. */
+static struct answer plan_rightly(const struct known *known, struct asked asked, uint8_t *plan)
+{
+    size_t s = known->counts.results[STAGES];
+    struct answer found = plan_net(known->net, s, asked, plan);
+    must(planning_refusal_right(known, asked, found.refusal), "not the refusal that is due");
+    hold_against(known->net, s, asked, &found, known->plan, &known->judged);
+    if (found.refusal == 0)
+        plan_keeps_promises(known->net, &known->counts, asked, &found, plan);
+    return found;
+}
+
+/* The length of a table with as many whole columns or more. */
+static size_t other_entries(size_t s, size_t entries)
+{
+    if (one_in(3))
+        return entries - entries % (s + 2);
+    return entries + below(one_in(4) ? MOST_TABLE - entries + 1 : margin(MOST_TABLE - entries) + 1);
 }
 
 /* After acceptance: a longer table, or one without the entries beyond the last whole column, gives the same. After 12: a table that is never too short is not. */
@@ -1205,19 +1318,99 @@ static void other_table(const struct net *net, size_t s, struct asked asked, con
         return;
     }
     other.buffer = s + below(9);
-    if (one_in(3))
-        other.entries -= asked.entries % (s + 2);
-    else
-        other.entries += below(one_in(4) ? MOST_TABLE - asked.entries + 1 : margin(MOST_TABLE - asked.entries) + 1);
+    other.entries = other_entries(s, asked.entries);
     struct answer second = plan_net(net, s, other, again);
     must(memcmp(&second, found, sizeof second) == 0, "another answer with a table of as many columns or more");
     must(memcmp(again, plan, s) == 0, "another plan with a table of as many columns or more");
 }
 
+/* Beside a plan found with a share: rounds down to its grain are all run on the same table, to the same floor. That plan is also the last of the rounds: so they
+ * give the plan of the rounds before, or this one if it is cheaper. */
+static void rounds_beside_share(const struct net *net, size_t s, struct asked asked, const struct answer *found, const uint8_t *plan)
+{
+    uint8_t all_plan[MOST_STAGES], before_plan[MOST_STAGES];
+    asked.call = ROUNDS;
+    asked.r = MOST_ROUNDS - found->results[GRAIN_EXPONENT] - 1;
+    struct answer before = plan_net(net, s, asked, before_plan);
+    asked.r++;
+    struct answer all = plan_net(net, s, asked, all_plan);
+    int cheaper = found->results[COST] < before.results[COST];
+    const struct answer *due = cheaper ? found : &before;
+    must(before.refusal == 0 && all.refusal == 0 && all.results[ROUNDS_RUN] == asked.r, "not as many rounds as down to the grain of the plan found with a share");
+    must(all.results[FLOOR] == found->results[FLOOR], "another floor than that of the plan found with a share");
+    must(all.results[COST] == due->results[COST] && all.results[SLACK] == due->results[SLACK], "not the cheapest plan of the rounds, or its slack");
+    must(memcmp(all_plan, cheaper ? plan : before_plan, s) == 0, "not the cheapest plan of the rounds, or not that of the larger k");
+}
+
+/* After all rounds: share 0 finds a plan of the same cost on the same table, and both floors are this cost. */
+static void share_0_beside_rounds(const struct net *net, size_t s, struct asked asked, const struct answer *found)
+{
+    uint8_t plan[MOST_STAGES];
+    asked.call = PLANNING;
+    asked.p = 0;
+    asked.q = some_share(1);
+    struct answer cheapest = plan_net(net, s, asked, plan);
+    must(cheapest.refusal == 0, "all rounds were run, but on the same table share 0 is refused");
+    must(cheapest.results[COST] == found->results[COST] && found->results[FLOOR] == found->results[COST], "all rounds, but not the cheapest plan or its floor");
+}
+
+/* After rounds: more of them on the same table, or as many on one of as many columns or more, give no dearer plan and no lower floor, and no fewer are run. If
+ * none is run in addition, the answer is the same; if none is cheaper, the plan. */
+static void more_rounds(const struct net *net, size_t s, struct asked asked, const struct answer *found, const uint8_t *plan)
+{
+    uint8_t again[MOST_STAGES];
+    struct asked more = asked;
+    if (one_in(3))
+        more.entries = other_entries(s, asked.entries);
+    else
+        more.r = (uint64_t)between((int64_t)asked.r, MOST_ROUNDS);
+    struct answer second = plan_net(net, s, more, again);
+    must(second.refusal == 0, "refused, but not for fewer rounds or columns");
+    must(second.results[COST] <= found->results[COST], "a dearer plan for more rounds or columns");
+    must(second.results[FLOOR] >= found->results[FLOOR], "a lower floor for more rounds or columns");
+    must(second.results[ROUNDS_RUN] >= found->results[ROUNDS_RUN], "fewer rounds were run for more rounds or columns");
+    must(second.results[COST] < found->results[COST] || memcmp(again, plan, s) == 0, "another plan for more rounds or columns, and it is not cheaper");
+    must(second.results[ROUNDS_RUN] > found->results[ROUNDS_RUN] || memcmp(&second, found, sizeof second) == 0, "another answer for the same rounds");
+}
+
+/* After rounds: with V(k) + 1 columns, k being the last, which the floor tells, the answer is the same; with one column less that round is not run. */
+static void just_enough_columns(const struct net *net, size_t s, struct asked asked, const struct answer *found, const uint8_t *plan)
+{
+    uint8_t again[MOST_STAGES];
+    uint64_t least = found->results[FLOOR] >> exponent(asked, found);
+    asked.entries = (least + 1) * (s + 2);
+    struct answer second = plan_net(net, s, asked, again);
+    must(memcmp(&second, found, sizeof second) == 0 && memcmp(again, plan, s) == 0, "another answer with as many columns as the last round needs");
+    asked.entries -= 1 + below(s + 2);
+    second = plan_net(net, s, asked, again);
+    if (least == 0)
+        must(second.refusal == 12, "no column, and not 12");
+    else
+        must(second.refusal == 0 && second.results[ROUNDS_RUN] < found->results[ROUNDS_RUN], "a round was run for which a column is missing");
+}
+
+/* How many answers by rounds ended early, and in how many all 29 were run. */
+static uint64_t ended_early, all_run;
+
+/* After rounds: what they found, held against other calls. */
+static void after_rounds(const struct net *net, size_t s, struct asked asked, const struct answer *found, const uint8_t *plan)
+{
+    if (found->refusal != 0)
+        return;
+    ended_early += found->results[ROUNDS_RUN] < asked.r;
+    more_rounds(net, s, asked, found, plan);
+    if (one_in(2))
+        just_enough_columns(net, s, asked, found, plan);
+    if (found->results[ROUNDS_RUN] == MOST_ROUNDS) {
+        all_run++;
+        share_0_beside_rounds(net, s, asked, found);
+    }
+}
+
 /* What every call says of a net. */
 struct answers {
-    struct answer checked, judged, found;
-    uint8_t plan[MOST_STAGES];
+    struct answer checked, judged, found, by_rounds;
+    uint8_t plan[MOST_STAGES], rounds_plan[MOST_STAGES];
 };
 
 static struct answers ask_all(const struct net *net, const uint8_t *plan, size_t len, struct asked asked)
@@ -1226,6 +1419,8 @@ static struct answers ask_all(const struct net *net, const uint8_t *plan, size_t
     all.checked = check(net);
     all.judged = judge(net, plan, len);
     all.found = plan_net(net, all.checked.results[STAGES], asked, all.plan);
+    asked.call = ROUNDS;
+    all.by_rounds = plan_net(net, all.checked.results[STAGES], asked, all.rounds_plan);
     return all;
 }
 
@@ -1310,43 +1505,57 @@ static void keep_net(const struct net *net, size_t s)
         copy_net(&pool[given + below(POOL - given)], net);
 }
 
+/* After planning with a share: what was found, held against other calls. */
+static void after_share(const struct net *net, size_t s, struct asked asked, const struct answer *found, const uint8_t *plan)
+{
+    if (found->refusal == 0) {
+        planned++;
+        planned_long += (uint64_t)has_long_edge(net);
+        planned_vias += (uint64_t)has_vias(net);
+        rounds_beside_share(net, s, asked, found, plan);
+    }
+    if (found->refusal == 0 || found->refusal == 12) {
+        other_table(net, s, asked, found, plan);
+        keep_net(net, s);
+    }
+}
+
+static void try_planning(const struct known *known, int call)
+{
+    uint8_t plan[MOST_STAGES];
+    size_t s = known->counts.results[STAGES];
+    struct asked asked = make_asked(call, s);
+    struct answer found = plan_rightly(known, asked, plan);
+    (call == ROUNDS ? after_rounds : after_share)(known->net, s, asked, &found, plan);
+}
+
 static void try_net(void)
 {
     static struct net net;
-    uint8_t plan[MOST_PLAN], found_plan[MOST_STAGES];
+    uint8_t plan[MOST_PLAN];
     if (one_in(4))
         chart_entries(any() >> below(64), any() >> below(64));
     else
         chart_entries(below(MOST_STAGES + 3), below(CHART_SHARES + 3));
     make_net(&net);
-    struct answer counts = check_rightly(&net);
-    size_t s = counts.results[STAGES];
+    struct known known = {.net = &net, .counts = check_rightly(&net), .plan = plan};
+    const struct answer *counts = &known.counts;
+    size_t s = counts->results[STAGES];
     nets++;
-    readable += counts.refusal == 0;
-    if (counts.refusal == 0 && one_in(3))
-        tighten(&net, &counts);
-    size_t len = make_plan(s, counts.results[LAYERS], plan);
-    struct answer judged = judge_rightly(&net, &counts, plan, len);
-    struct asked asked = make_asked(s);
-    struct answer found = plan_net(&net, s, asked, found_plan);
-    must(planning_refusal_right(&counts, asked, found.refusal), "vorphiel_plan: not the refusal that is due");
-    hold_against(&net, asked, &found, plan, &judged);
-    if (found.refusal == 0) {
-        planned++;
-        planned_long += (uint64_t)has_long_edge(&net);
-        planned_vias += (uint64_t)has_vias(&net);
-        plan_keeps_promises(&net, &counts, asked, &found, found_plan);
-    }
-    if (found.refusal == 0 || found.refusal == 12) {
-        other_table(&net, s, asked, &found, found_plan);
-        keep_net(&net, s);
-    }
+    readable += counts->refusal == 0;
+    if (counts->refusal == 0 && one_in(3))
+        tighten(&net, counts);
+    size_t len = make_plan(s, counts->results[LAYERS], plan);
+    known.judged = judge_rightly(&net, counts, plan, len);
+    known.in_time = counts->refusal == 0 && some_plan_in_time(&net, s);
+    try_planning(&known, PLANNING);
+    try_planning(&known, ROUNDS);
     if (one_in(4))
         try_layers();
     if (one_in(4))
-        try_other_edition(&net, plan, len, asked);
-    if (counts.refusal == 0 && one_in(4))
-        raise_via(&net, &counts);
+        try_other_edition(&net, plan, len, make_asked(PLANNING, s));
+    if (counts->refusal == 0 && one_in(4))
+        raise_via(&net, counts);
 }
 
 /* ---- One block: the report over it, and its nets planned one by one ---- */
@@ -1467,7 +1676,7 @@ static struct vorphiel_totals plan_each(const struct block *block, uint64_t *wir
 {
     static struct net net;
     struct vorphiel_totals totals = {0};
-    const struct asked asked = {.p = 1, .q = 4, .entries = 8192, .buffer = MOST_STAGES};
+    const struct asked asked = {.call = PLANNING, .p = 1, .q = 4, .entries = 8192, .buffer = MOST_STAGES};
     uint8_t plan[MOST_STAGES];
     for (size_t at = 0; at < block->len; at += 3 + net.len) {
         net.len = field_len(block->bytes + at) - 3;
@@ -1554,8 +1763,8 @@ static void read_net(const char *name)
 static int print_met(int call)
 {
     int missing = 0;
-    printf("%-14s accepted %" PRIu64 "; refused", CALL_NAMES[call], met[call][0]);
-    for (unsigned number = 0; number <= 12; number++) {
+    printf("%-20s accepted %" PRIu64 "; refused", CALL_NAMES[call], met[call][0]);
+    for (unsigned number = 0; number < NUMBERS; number++) {
         if (!(ALLOWED[call] >> number & 1))
             continue;
         missing += met[call][number] == 0;
@@ -1604,6 +1813,7 @@ static void print_summary(void)
     printf("%.0f%% of these can be read, %.0f%% were planned", 100.0 * (double)readable / (double)nets, 100.0 * (double)planned / (double)nets);
     printf(", %" PRIu64 " of them with an edge above 1,000, %" PRIu64 " with vias\n", planned_long, planned_vias);
     printf("%" PRIu64 " nets were tried in both editions, of %" PRIu64 " a via resistance was raised\n", twins, raised);
+    printf("of %" PRIu64 " nets the rounds ended early, of %" PRIu64 " all %d were run\n", ended_early, all_run, MOST_ROUNDS);
     int missing = 0;
     for (int call = 0; call < CALLS; call++)
         missing += print_met(call);

@@ -32,7 +32,7 @@ macro_rules! c_calls {
 }
 
 c_calls! {
-    /// Reads a net. The answer is a refusal's number, 0 if there is none; so also in `Judge` and `Plan`.
+    /// Reads a net. The answer is a refusal's number, 0 if there is none; so also in `Judge`, `Plan` and `PlanRounds`.
     Check = vorphiel_check(net: *const u8, net_len: usize, nodes: *mut u64, stages: *mut u64, layers: *mut u64) -> u8;
 
     /// Judges a plan.
@@ -59,6 +59,21 @@ c_calls! {
         slack: *mut i64,
         k: *mut u64,
         floor: *mut u64,
+    ) -> u8;
+
+    /// Plans a net by some rounds.
+    PlanRounds = vorphiel_plan_rounds(
+        net: *const u8,
+        net_len: usize,
+        r: u64,
+        table: *mut i64,
+        table_len: usize,
+        plan: *mut u8,
+        plan_len: usize,
+        cost: *mut u64,
+        slack: *mut i64,
+        floor: *mut u64,
+        rounds: *mut u64,
     ) -> u8;
 
     /// The wall chart's number, 0 where it has none.

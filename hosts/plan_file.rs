@@ -1,27 +1,39 @@
 //! A host in Rust: plans the net that a file holds.
 //!
 //!     plan_file NET [P Q]
+//!     plan_file --rounds R NET
 //!
-//! The share is P/Q, or 1/4 if none is given; share 0/1 asks for the cheapest plan. Output and exit status are those of `plan_file.c`:
-//! the line of the scope document's program and the floor (status 0), or `refused` and its number, with words on standard error (status 1);
-//! status 2 if it was not tried (wrong use, a file that cannot be read, no memory).
+//! The share is P/Q, or 1/4 if none is given; share 0/1 asks for the cheapest plan. With `--rounds` the plan is the cheapest that R rounds find. Output and exit
+//! status are those of `plan_file.c`: the line of the scope document's program and the floor, or the line of the rounds (status 0); or `refused` and its number,
+//! with words on standard error (status 1); status 2 if it was not tried (wrong use, a file that cannot be read, no memory).
 //!
 //! Build: `rustc -O --edition 2021 -D warnings -L target/staticlib hosts/plan_file.rs`
 
 mod vorphiel;
 
+use std::ffi::OsString;
 use std::fmt::Write as _;
 use std::io::Write as _;
 use std::process::ExitCode;
-use vorphiel::{Planned, Refusal};
+use vorphiel::{Planned, Refusal, RoundsPlanned};
 
-/// The longest table lent for share 0: 128 MiB, about twice what any share above 0 can need (64 stages, share 1/1,000: 8,452,224 entries).
+/// The longest table lent for share 0 or for rounds: 128 MiB, about twice what any share above 0 can need (64 stages, share 1/1,000: 8,452,224 entries).
 const MOST_ENTRIES: usize = 1 << 24;
 
 /// Exit status where nothing was planned or refused.
 const NOT_TRIED: u8 = 2;
 
-const USAGE: &str = "usage: plan_file NET [P Q]\n  plans the net in the file NET with share P/Q (1/4 if not given)";
+const USAGE: &str = "\
+usage: plan_file NET [P Q]
+  plans the net in the file NET with share P/Q (1/4 if not given)
+       plan_file --rounds R NET
+  gives the cheapest plan that R rounds find, R from 1 to 29";
+
+/// What is asked for.
+enum Asked {
+    Share { p: u64, q: u64 },
+    Rounds { r: u64 },
+}
 
 /// Why nothing was planned.
 enum Failure {
@@ -44,14 +56,18 @@ fn number(text: &str) -> Option<u64> {
     }
 }
 
-/// The file's name and the share.
-fn read_arguments() -> Option<(std::ffi::OsString, u64, u64)> {
+/// The file's name, and what is asked for.
+fn read_arguments() -> Option<(OsString, Asked)> {
     let arguments: Vec<_> = std::env::args_os().skip(1).collect();
-    match &arguments[..] {
-        [file] => Some((file.clone(), 1, 4)),
-        [file, p, q] => Some((file.clone(), number(p.to_str()?)?, number(q.to_str()?)?)),
-        _ => None,
-    }
+    let number_of = |text: &OsString| number(text.to_str()?);
+    let (file, asked) = match &arguments[..] {
+        [flag, r, file] if flag == "--rounds" => (file, Asked::Rounds { r: number_of(r)? }),
+        [flag, ..] if flag == "--rounds" => return None,
+        [file] => (file, Asked::Share { p: 1, q: 4 }),
+        [file, p, q] => (file, Asked::Share { p: number_of(p)?, q: number_of(q)? }),
+        _ => return None,
+    };
+    Some((file.clone(), asked))
 }
 
 /// A table of zeros, or a message where there is no memory for it.
@@ -62,43 +78,64 @@ fn table_of(entries: usize) -> Result<Vec<i64>, Failure> {
     Ok(table)
 }
 
-/// How long a table to lend at first: where there is no rule for it, a small one. Share 0 begins with it, and `plan_net` doubles it; a share that is out of
-/// range is refused before the table is looked at.
-fn first_entries(stages: u64, p: u64, q: u64) -> usize {
-    vorphiel::enough_entries(stages, p, q).unwrap_or(64 * (stages as usize + 2))
+/// A small table, for a beginning where no rule says how long it must be.
+fn few_entries(plan: &[u8]) -> usize {
+    64 * (plan.len() + 2)
 }
 
-/// Plans a net, and gives the plan with what is said of it. Only share 0 comes here to a second table: 12 says that the last was too short, and nothing else
-/// is wrong.
-fn plan_net(net: &[u8], p: u64, q: u64) -> Result<(Planned, Vec<u8>), Failure> {
-    let counts = vorphiel::check(net)?;
-    let mut plan = vec![0; counts.stages as usize];
-    let mut entries = first_entries(counts.stages, p, q);
+/// Plans a net with a share; the buffer is as long as the plan. Only share 0 comes here to a second table, and begins with a small one: 12 says that the last was
+/// too short, and nothing else is wrong. A share that is out of range is refused before the table is looked at.
+fn plan_by_share(net: &[u8], p: u64, q: u64, plan: &mut [u8]) -> Result<Planned, Failure> {
+    let mut entries = vorphiel::enough_entries(plan.len() as u64, p, q).unwrap_or(few_entries(plan));
     loop {
-        match vorphiel::plan(net, p, q, &mut table_of(entries)?, &mut plan) {
+        match vorphiel::plan(net, p, q, &mut table_of(entries)?, plan) {
             Err(Refusal(12)) if entries < MOST_ENTRIES => entries = (2 * entries).min(MOST_ENTRIES),
-            answer => return Ok((answer?, plan)),
+            answer => return Ok(answer?),
         }
     }
 }
 
-/// The two lines for a plan.
-fn lines(planned: &Planned, plan: &[u8]) -> String {
-    let Planned { cost, slack, k, floor } = planned;
-    let mut text = format!("cost {cost} grain {} slack {slack} plan", 1u64 << k);
+/// Plans a net by rounds; the buffer is as long as the plan. Where a small table ends them early, the second is as long as they need, if that may be.
+fn plan_by_rounds(net: &[u8], r: u64, plan: &mut [u8]) -> Result<RoundsPlanned, Failure> {
+    let first = vorphiel::plan_rounds(net, r, &mut table_of(few_entries(plan))?, plan)?;
+    if first.rounds == r {
+        return Ok(first);
+    }
+    let enough = vorphiel::enough_for_rounds(plan.len() as u64, r, first.cost).unwrap_or(MOST_ENTRIES);
+    Ok(vorphiel::plan_rounds(net, r, &mut table_of(enough.min(MOST_ENTRIES))?, plan)?)
+}
+
+/// The line for a plan: what is said of it, then its layers.
+fn line(said: String, plan: &[u8]) -> String {
+    let mut text = said + " plan";
     for layer in plan {
         write!(text, " {layer}").expect("a string grows");
     }
-    text + &format!("\nfloor {floor}: no plan that meets timing costs less\n")
+    text + "\n"
+}
+
+/// Plans a net, and gives the text to print.
+fn plan_net(net: &[u8], asked: Asked) -> Result<String, Failure> {
+    let mut plan = vec![0; vorphiel::check(net)?.stages as usize];
+    Ok(match asked {
+        Asked::Share { p, q } => {
+            let Planned { cost, slack, k, floor } = plan_by_share(net, p, q, &mut plan)?;
+            let first = line(format!("cost {cost} grain {} slack {slack}", 1u64 << k), &plan);
+            first + &format!("floor {floor}: no plan that meets timing costs less\n")
+        }
+        Asked::Rounds { r } => {
+            let RoundsPlanned { cost, slack, floor, rounds } = plan_by_rounds(net, r, &mut plan)?;
+            line(format!("cost {cost} slack {slack} floor {floor} rounds {rounds}"), &plan)
+        }
+    })
 }
 
 /// Reads the arguments and the file, plans, and gives the text to print.
 fn planned_text() -> Result<String, Failure> {
-    let (file, p, q) = read_arguments().ok_or_else(|| Failure::NotTried(String::from(USAGE)))?;
+    let (file, asked) = read_arguments().ok_or_else(|| Failure::NotTried(String::from(USAGE)))?;
     let net = std::fs::read(&file)
         .map_err(|error| Failure::NotTried(format!("plan_file: {}: {error}", file.to_string_lossy())))?;
-    let (planned, plan) = plan_net(&net, p, q)?;
-    Ok(lines(&planned, &plan))
+    plan_net(&net, asked)
 }
 
 fn main() -> ExitCode {

@@ -7,7 +7,7 @@
 #[path = "c_calls.rs"] // Beside this file, wherever it is taken from.
 mod c_calls;
 
-use c_calls::{Check, Judge, Plan, Report, TableEntries};
+use c_calls::{Check, Judge, Plan, PlanRounds, Report, TableEntries};
 use std::fmt;
 
 pub use c_calls::Totals;
@@ -19,7 +19,10 @@ extern "C" {}
 /// The largest p and the largest q of a share p/q.
 pub const MOST_SHARE: u64 = 1_000;
 
-/// A refusal by its number, 1 to 13; shown in words.
+/// The most rounds: one for each k from 28 down to 0.
+pub const MOST_ROUNDS: u64 = 29;
+
+/// A refusal by its number, 1 to 14; shown in words.
 #[derive(Clone, Copy, Debug, PartialEq, Eq)]
 pub struct Refusal(pub u8);
 
@@ -39,6 +42,7 @@ impl fmt::Display for Refusal {
             11 => "no plan of this net meets timing",
             12 => "the table has too few columns; a larger share needs fewer",
             13 => "no block: more than 65,536 bytes, a field of another tag than 6, or cut short",
+            14 => "the number of rounds is outside 1 to 29",
             _ => "a refusal that this host does not know",
         })
     }
@@ -69,6 +73,16 @@ pub struct Planned {
     pub slack: i64,
     pub k: u64,
     pub floor: u64,
+}
+
+/// What is said of the cheapest plan of some rounds: its cost and slack, the floor, which is the largest of the rounds and at most the cost of every plan that
+/// meets timing, and how many rounds were run, at k = 28, 27 and down.
+#[derive(Clone, Copy, Debug, Default, PartialEq, Eq)]
+pub struct RoundsPlanned {
+    pub cost: u64,
+    pub slack: i64,
+    pub floor: u64,
+    pub rounds: u64,
 }
 
 fn accepted<T>(refusal: u8, answer: T) -> Result<T, Refusal> {
@@ -124,6 +138,29 @@ pub fn plan(net: &[u8], p: u64, q: u64, table: &mut [i64], plan: &mut [u8]) -> R
     accepted(refusal, found)
 }
 
+/// Plans a net by at most r rounds: on acceptance the cheapest plan that they found opens the buffer `plan`. They end early, which is no refusal, before a round
+/// that needs more columns than the table has; with `enough_for_rounds` entries all are run. Refusals: 1 to 6, 14, 10, 11, 12.
+pub fn plan_rounds(net: &[u8], r: u64, table: &mut [i64], plan: &mut [u8]) -> Result<RoundsPlanned, Refusal> {
+    let mut found = RoundsPlanned::default();
+    let RoundsPlanned { cost, slack, floor, rounds } = &mut found;
+    let call = PlanRounds {
+        net: net.as_ptr(),
+        net_len: net.len(),
+        r,
+        table: table.as_mut_ptr(),
+        table_len: table.len(),
+        plan: plan.as_mut_ptr(),
+        plan_len: plan.len(),
+        cost,
+        slack,
+        floor,
+        rounds,
+    };
+    // SAFETY: as in `plan`.
+    let refusal = unsafe { call.make() };
+    accepted(refusal, found)
+}
+
 /// The totals over the nets of a block, each planned with share 1/4, a table of 8,192 entries and a plan buffer of 64; a net that is refused is counted in
 /// `refused` by its number. The one refusal of a block is 13.
 pub fn report(block: &[u8]) -> Result<Totals, Refusal> {
@@ -150,5 +187,12 @@ pub fn enough_entries(stages: u64, p: u64, q: u64) -> Option<usize> {
         return None;
     }
     let columns = stages.checked_mul(2 * q)?.div_ceil(p).checked_add(stages)?;
+    usize::try_from(columns.checked_mul(stages.checked_add(2)?)?).ok()
+}
+
+/// A table length with which all of r rounds are run, r from 1 to 29, once a plan of this cost is known that meets timing: (cost / 2^(29 - r) + 1) * (s + 2).
+pub fn enough_for_rounds(stages: u64, r: u64, cost: u64) -> Option<usize> {
+    let last_k = MOST_ROUNDS.checked_sub(r)?;
+    let columns = (cost >> last_k).checked_add(1)?;
     usize::try_from(columns.checked_mul(stages.checked_add(2)?)?).ok()
 }

@@ -2,9 +2,9 @@
  *
  * Every call answers for every input: there is nothing that the caller must see to beforehand, but that each pointer is valid for the length given with it
  * and that lent buffers do not overlap. Of the calls on a net each returns a refusal number, 0 if it accepts; the answer of vorphiel_report holds one. On a
- * refusal every result is 0 and no lent buffer is changed, with one exception: after 12 the table of vorphiel_plan is all zero.
+ * refusal every result is 0 and no lent buffer is changed, with one exception: after 12 the table is all zero.
  * Beside what it is lent a call takes stack only: vorphiel_plan 124 kB as measured on x86-64, vorphiel_report 192 kB, for it has a table of 64 kB of its own.
- * docs/CUSTOMERS.md says all this at more length, with worked examples. The numbers are those of the scope document, 13 that of the change requests:
+ * docs/CUSTOMERS.md says all this at more length, with worked examples. The numbers are those of the scope document, 13 and 14 those of the change requests:
  *   1  fewer than three bytes are left where a field is due, or the payload is not all there
  *   2  a tag that is not allowed there, or a length that its kind does not have
  *   3  a number outside its range (the length of an edge is 0 to 4,000, a via resistance 0 to 1,000; docs/CUSTOMERS.md has them all)
@@ -18,6 +18,7 @@
  *  11  no plan of the net meets timing
  *  12  the table has too few columns
  *  13  bytes that are no block: more than 65,536, another tag than 6, or cut short
+ *  14  the number of rounds is outside 1 to 29
  */
 #ifndef VORPHIEL_H
 #define VORPHIEL_H
@@ -64,6 +65,27 @@ uint8_t vorphiel_judge(const uint8_t *net, size_t net_len, const uint8_t *plan, 
  * whether the net can be read or any plan of it meets timing: each of these is answered by a result or by a number above. */
 uint8_t vorphiel_plan(const uint8_t *net, size_t net_len, uint64_t p, uint64_t q, int64_t *table, size_t table_len,
                       uint8_t *plan, size_t plan_len, uint64_t *cost, int64_t *slack, uint64_t *k, uint64_t *floor);
+
+/* Plans a net of s stages by at most r rounds, 1 to 29, and gives the cheapest plan that they found. The rounds run at k = 28, 27 and down; each finds the least
+ * cost rounded to 2^k of the plans that meet timing, and the plan that vorphiel_plan gives at the grain 2^k. They end early before a k that needs more columns
+ * than the table has. That is no refusal: `rounds` tells.
+ *
+ * Accepted:
+ *   plan    its first s bytes are the cheapest plan of the rounds by true cost, that of the larger k among equals; later bytes keep their values
+ *   cost    the plan's cost, and
+ *   slack   its slack in ticks, 0 or more: both as vorphiel_judge gives them
+ *   floor   the largest, over the rounds, of 2^k times the least rounded cost: at most the cost of every plan of the net that meets timing
+ *   rounds  how many rounds were run, 1 to r; the last at k = 29 - rounds
+ *   table   all zero, every entry
+ * With k of the last round, cost - floor is 0 or more and at most s * (2^k - 1). So after 29 rounds the plan is the cheapest, and floor is cost. Of two calls that
+ * differ only in r, both 1 to 29, that with the larger r gives no dearer plan and no lower floor.
+ *
+ * Refused with 1 to 6 for the net, then 14, 10, 11, 12; 12 just where the table has no column. Plan buffer and table are left as by vorphiel_plan.
+ *
+ * The columns are table_len / (s + 2), rounded down. With 2^(r - 1) columns all r rounds are run; so they are, if any plan that meets timing costs c, with
+ * c / 2^(29 - r) + 1 columns. Longer tables change nothing. */
+uint8_t vorphiel_plan_rounds(const uint8_t *net, size_t net_len, uint64_t r, int64_t *table, size_t table_len,
+                             uint8_t *plan, size_t plan_len, uint64_t *cost, int64_t *slack, uint64_t *floor, uint64_t *rounds);
 
 /* The wall chart of table lengths: the entries that always serve a net of s stages at share 1/q, (s + 2) * (s + 2qs), for s from 1 to 64 and q from 1 to 10. 0
  * for every other s or q: the chart has no number there. A net of s stages that is planned with share 1/q and a table of the chart's length or longer is never

@@ -3,8 +3,10 @@
 //!
 //!     vorphiel-bench          prints the tables of docs/SPEED.md
 //!     vorphiel-bench --same   only whether both give the same answers, and whether the report keeps to its bound
+//!     vorphiel-bench --rounds   only the tables of planning by rounds
 //!     vorphiel-bench --blocks   only the table of the blocks
-//!     vorphiel-bench --once   each measured call once, for callgrind; --once-blocks BYTES does so for blocks of at most so many bytes
+//!     vorphiel-bench --once   each measured call once, for callgrind; --once-rounds does so for planning by rounds, --once-blocks BYTES for blocks of at most
+//!                             so many bytes
 
 mod blocks;
 mod families;
@@ -16,16 +18,37 @@ mod report;
 mod stack;
 
 use families::{Case, Shape, Size, Times, LIMITS};
+use library::MOST_ROUNDS;
 use measure::{Call, Job, Pair};
 use report::Measured;
+use std::ops::Range;
 
 /// The shares of the table.
 const SHARES: [(u64, u64); 4] = [(1, 1), (1, 4), (1, 10), (1, 100)];
 
-/// The calls that are measured on each net at the limits.
+/// The rounds of which answers are compared: the first, some at coarse and at finer grains, all.
+const ROUNDS: [u64; 4] = [1, 16, 22, MOST_ROUNDS];
+
+/// The calls that are measured on each net at the limits, but for planning by rounds.
 fn calls() -> Vec<Call> {
     let plans = SHARES.map(|(p, q)| Call::Plan { p, q });
     [vec![Call::Check, Call::Judge], plans.to_vec()].concat()
+}
+
+/// The nets on which they are measured, and which of them are at the limits with short edges, have vias, have long edges.
+fn kinds_of_nets() -> (Vec<Case>, [Range<usize>; 3]) {
+    let mut cases = families::at_the_limits();
+    let short = cases.len();
+    cases.extend(families::with_vias());
+    let short_or_vias = cases.len();
+    cases.extend(families::long_edges());
+    let all = cases.len();
+    (cases, [0..short, short..short_or_vias, short_or_vias..all])
+}
+
+/// Planning each net by r rounds.
+fn by_rounds(cases: &[Case], r: u64) -> Vec<Job<'_>> {
+    cases.iter().map(|case| Job::new(case, Call::Rounds { r })).collect()
 }
 
 /// The nets of which one size grows: what grows, to which size, and the share.
@@ -64,6 +87,29 @@ fn beside_times(counted: Option<&measure::Counted>, pairs: &mut [impl Pair]) -> 
     timed.enumerate().map(|(place, times)| (counted.map(|counted| counted.0[place]), times)).collect()
 }
 
+/// Both sides answer alike; gives the number of answers.
+fn compare(jobs: &mut [Job]) -> usize {
+    for job in jobs.iter_mut() {
+        assert_eq!(job.answer(&measure::LIBRARY), job.answer(&measure::PEER), "the peer answers otherwise");
+    }
+    jobs.len()
+}
+
+/// The tables of all rounds, for each kind of nets.
+fn measure_rounds() {
+    let (cases, kinds) = kinds_of_nets();
+    let mut jobs = by_rounds(&cases, MOST_ROUNDS);
+    compare(&mut jobs);
+    let run: Vec<u64> = jobs.iter_mut().map(Job::rounds_run).collect();
+    let stack = jobs.iter_mut().map(|job| stack::bytes(job)).max().expect("a net");
+    let counted = measure::instructions(&["--once-rounds"], jobs.len(), &[]);
+    let measured = beside_times(counted.as_ref(), &mut jobs);
+    for nets in kinds {
+        report::rounds(&cases[nets.clone()], &run[nets.clone()], &measured[nets]);
+    }
+    println!("Planning by rounds takes {stack} bytes of stack, at most.\n");
+}
+
 /// The table of the blocks.
 fn measure_blocks() {
     let mut blocks = blocks::of_small_nets(blocks::LONGEST);
@@ -76,18 +122,16 @@ fn main() {
     let arguments: Vec<String> = std::env::args().skip(1).collect();
     match &arguments.iter().map(String::as_str).collect::<Vec<_>>()[..] {
         ["--once-blocks", bytes] => measure::run_once(&mut blocks::of_small_nets(bytes.parse().expect("a number"))),
+        ["--once-rounds"] => measure::run_once(&mut by_rounds(&kinds_of_nets().0, MOST_ROUNDS)),
         ["--blocks"] => measure_blocks(),
+        ["--rounds"] => measure_rounds(),
         asked => measure_calls(asked),
     }
 }
 
-/// What is asked for of the calls on a net, and then of the blocks.
+/// What is asked for of the other calls on a net, and then of rounds and blocks.
 fn measure_calls(asked: &[&str]) {
-    let (mut cases, growing, calls) = (families::at_the_limits(), growing(), calls());
-    let short = cases.len();
-    cases.extend(families::with_vias());
-    let short_or_vias = cases.len();
-    cases.extend(families::long_edges());
+    let ((cases, kinds), growing, calls) = (kinds_of_nets(), growing(), calls());
     let at_limits = cases.iter().flat_map(|case| calls.iter().map(move |&call| Job::new(case, call)));
     let mut jobs: Vec<Job> = at_limits.collect();
     jobs.extend(growing.iter().map(|(_, _, case, call)| Job::new(case, *call)));
@@ -95,11 +139,10 @@ fn measure_calls(asked: &[&str]) {
         measure::run_once(&mut jobs);
         return;
     }
-    for job in &mut jobs {
-        assert_eq!(job.answer(&measure::LIBRARY), job.answer(&measure::PEER), "the peer answers otherwise");
-    }
+    let same = compare(&mut jobs);
     if asked == ["--same"] {
-        println!("{} answers the same", jobs.len());
+        let by_rounds = ROUNDS.map(|r| compare(&mut by_rounds(&cases, r)));
+        println!("{} answers the same", same + by_rounds.iter().sum::<usize>());
         blocks::keep_the_bound();
         return;
     }
@@ -107,7 +150,8 @@ fn measure_calls(asked: &[&str]) {
     let counted = measure::instructions(&["--once"], jobs.len(), &profiled(&cases, &calls));
     let measured = beside_times(counted.as_ref(), &mut jobs);
     let (limits, grown) = measured.split_at(cases.len() * calls.len());
-    for nets in [0..short, short..short_or_vias, short_or_vias..cases.len()] {
+    let short_or_vias = kinds[1].end;
+    for nets in kinds {
         let rows = nets.start * calls.len()..nets.end * calls.len();
         report::ratios(&cases[nets], &calls, &limits[rows]);
     }
@@ -116,5 +160,6 @@ fn measure_calls(asked: &[&str]) {
     report::growth(&growing, grown);
     // Not with long edges: share 0 would take a table of gigabytes, as they cost millions.
     report::excess(&cases[..short_or_vias], &SHARES);
+    measure_rounds();
     measure_blocks();
 }

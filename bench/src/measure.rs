@@ -2,7 +2,7 @@
 //! by the library and by the peer.
 
 use crate::families::Case;
-use crate::library::{self, Counts, Judged, Planned, Refusal};
+use crate::library::{self, Counts, Judged, Planned, Refusal, RoundsPlanned};
 use crate::peer;
 use std::collections::HashMap;
 use std::path::Path;
@@ -15,15 +15,17 @@ pub trait Pair {
     fn run(&mut self, way: usize);
 }
 
-/// The three calls of an implementation.
+/// The calls of an implementation on a net.
 pub struct Side {
     check: fn(&[u8]) -> Result<Counts, Refusal>,
     judge: fn(&[u8], &[u8]) -> Result<Judged, Refusal>,
     plan: fn(&[u8], u64, u64, &mut [i64], &mut [u8]) -> Result<Planned, Refusal>,
+    rounds: fn(&[u8], u64, &mut [i64], &mut [u8]) -> Result<RoundsPlanned, Refusal>,
 }
 
-pub const LIBRARY: Side = Side { check: library::check, judge: library::judge, plan: library::plan };
-pub const PEER: Side = Side { check: peer::check, judge: peer::judge, plan: peer::plan };
+pub const LIBRARY: Side =
+    Side { check: library::check, judge: library::judge, plan: library::plan, rounds: library::plan_rounds };
+pub const PEER: Side = Side { check: peer::check, judge: peer::judge, plan: peer::plan, rounds: peer::plan_rounds };
 
 #[derive(Clone, Copy, PartialEq)]
 pub enum Call {
@@ -33,6 +35,9 @@ pub enum Call {
     Plan {
         p: u64,
         q: u64,
+    },
+    Rounds {
+        r: u64,
     },
 }
 
@@ -48,17 +53,32 @@ pub struct Job<'a> {
 pub enum Answer {
     Checked(Result<Counts, Refusal>),
     Judged(Result<Judged, Refusal>),
-    Planned(Result<Planned, Refusal>, Vec<u8>),
+    Planned(Result<Planned, Refusal>),
+    ByRounds(Result<RoundsPlanned, Refusal>),
 }
 
+/// The longest table lent for rounds, in entries: 128 MiB.
+const MOST_ENTRIES: usize = 1 << 24;
+
 impl<'a> Job<'a> {
-    /// The table is as long as is never too short for the share.
+    /// The table is as long as is never too short for the share; for rounds as long as they need, or where that is too
+    /// long, as for share 1/100.
     pub fn new(case: &'a Case, call: Call) -> Job<'a> {
-        let (p, q) = if let Call::Plan { p, q } = call { (p, q) } else { (1, 4) };
-        let entries = library::enough_entries(case.stages as u64, p, q).expect("a share above 0");
+        let (p, q) = match call {
+            Call::Check | Call::Judge => (1, 4),
+            Call::Plan { p, q } => (p, q),
+            Call::Rounds { .. } => (1, 100),
+        };
+        let stages = case.stages as u64;
+        let entries = library::enough_entries(stages, p, q).expect("a share above 0");
         let mut job = Job { net: &case.bytes, call, table: vec![0; entries], plan: vec![0; case.stages] };
-        if call == Call::Judge {
-            library::plan(job.net, p, q, &mut job.table, &mut job.plan).expect("a net that can be planned");
+        if matches!(call, Call::Check | Call::Plan { .. }) {
+            return job;
+        }
+        let first = library::plan(job.net, p, q, &mut job.table, &mut job.plan).expect("a net that can be planned");
+        if let Call::Rounds { r } = call {
+            let enough = library::enough_for_rounds(stages, r, first.cost).filter(|&enough| enough <= MOST_ENTRIES);
+            job.table = vec![0; enough.unwrap_or(entries)];
         }
         job
     }
@@ -67,17 +87,21 @@ impl<'a> Job<'a> {
         match self.call {
             Call::Check => Answer::Checked((side.check)(self.net)),
             Call::Judge => Answer::Judged((side.judge)(self.net, &self.plan)),
-            Call::Plan { p, q } => {
-                Answer::Planned((side.plan)(self.net, p, q, &mut self.table, &mut self.plan), vec![])
-            }
+            Call::Plan { p, q } => Answer::Planned((side.plan)(self.net, p, q, &mut self.table, &mut self.plan)),
+            Call::Rounds { r } => Answer::ByRounds((side.rounds)(self.net, r, &mut self.table, &mut self.plan)),
         }
     }
 
-    /// What the call answers.
-    pub fn answer(&mut self, side: &Side) -> Answer {
-        match self.call(side) {
-            Answer::Planned(answer, _) => Answer::Planned(answer, self.plan.clone()),
-            other => other,
+    /// What the call answers, with the plan that is in the buffer then.
+    pub fn answer(&mut self, side: &Side) -> (Answer, Vec<u8>) {
+        (self.call(side), self.plan.clone())
+    }
+
+    /// How many rounds the library runs; none for another call.
+    pub fn rounds_run(&mut self) -> u64 {
+        match self.call(&LIBRARY) {
+            Answer::ByRounds(Ok(found)) => found.rounds,
+            _ => 0,
         }
     }
 }

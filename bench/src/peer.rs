@@ -1,5 +1,5 @@
-//! The peer: check, judge and plan by the library's method, written in plain Rust with no thought of proof. The
-//! library's instructions and time are held against this.
+//! The peer: check, judge, plan and plan by rounds by the library's method, written in plain Rust with no thought of
+//! proof. The library's instructions and time are held against this.
 //!
 //! The method (source 000's oracle, source 001's merging, section 4.2): each stage's delays and costs on each layer;
 //! for a grain g a row of latest times over budgets for each stage, from the last stage to the first, branches merged
@@ -7,8 +7,11 @@
 //! known to meet timing bounds V(k), and budgets count what is spent above each stage's least rounded cost. A row has
 //! entries only where they matter, in its band: from the first budget that meets the earliest time at which its stage
 //! can be reached to the first that meets the latest, or as much as the largest budget meets.
+//!
+//! By rounds: the plan known to meet timing is that of the largest k; each k below bounds the next by the plan it found,
+//! and the cheapest of the plans is kept.
 
-use crate::library::{Counts, Judged, Planned, Refusal};
+use crate::library::{Counts, Judged, Planned, Refusal, RoundsPlanned, MOST_ROUNDS};
 
 const MOST_LAYERS: usize = 16;
 const MOST_NODES: usize = 255;
@@ -563,25 +566,104 @@ fn feasible(tree: &Tree, known: &mut [u8]) -> bool {
     value_at(tree, &mut [0; MOST_STAGES + 2], 1 << MOST_K, 1, known).is_some()
 }
 
+/// What some rounds found: the cheapest plan, the floor, and how many were run.
+struct Rounds {
+    cheapest: [u8; MOST_STAGES],
+    floor: u64,
+    run: u64,
+}
+
+/// V(k) at the grain g, and its first plan into `known`, from what the round at twice the grain found: V(k) is at least
+/// twice its value, and where its plan costs no more, it is the first of this round too.
+fn next_round(tree: &Tree, table: &mut [i64], g: u64, columns: usize, value: usize, known: &mut [u8]) -> Option<usize> {
+    let least = 2 * value;
+    if columns <= least {
+        return None;
+    }
+    let bound = rounded(tree, known, g);
+    if bound == least {
+        return Some(least);
+    }
+    plan_at(tree, table, g, columns, bound, known)
+}
+
+/// At most r rounds, from the largest k down, whose plan is the one known; they end before a k that needs more columns.
+fn run_rounds(tree: &Tree, table: &mut [i64], r: u64, mut known: [u8; MOST_STAGES]) -> Rounds {
+    let columns = table.len() / (tree.driven.len() + 2);
+    let (mut cost, mut value) = (rounded(tree, &known, 1), 0);
+    let mut found = Rounds { cheapest: known, floor: 0, run: 1 };
+    while found.run < r {
+        let k = MOST_K - found.run;
+        let Some(next) = next_round(tree, table, 1 << k, columns, value, &mut known) else { break };
+        value = next;
+        found.floor = (value as u64) << k;
+        found.run += 1;
+        let new_cost = rounded(tree, &known, 1);
+        if new_cost < cost {
+            (cost, found.cheapest) = (new_cost, known);
+        }
+    }
+    found
+}
+
+/// A net with its stages, its tree, and a plan that meets timing.
+struct Ready<'a> {
+    net: Net<'a>,
+    stages: (Vec<usize>, Vec<usize>),
+    tree: Tree,
+    known: [u8; MOST_STAGES],
+}
+
+impl<'a> Ready<'a> {
+    fn new(net: Net<'a>, room: usize) -> Result<Ready<'a>, Refusal> {
+        if room < net.stages {
+            return Err(Refusal(10));
+        }
+        let stages = stages_of(&net);
+        let tree = tree(&net, &stages);
+        let mut known = [0; MOST_STAGES];
+        if !feasible(&tree, &mut known) {
+            return Err(Refusal(11));
+        }
+        Ok(Ready { net, stages, tree, known })
+    }
+
+    /// The plan found goes to where it is wanted, and is judged.
+    fn hand_out(&self, found: &[u8; MOST_STAGES], plan: &mut [u8]) -> Judged {
+        let found = &found[..self.net.stages];
+        plan[..found.len()].copy_from_slice(found);
+        judged(&self.net, &self.stages, found)
+    }
+}
+
 /// Plan.
 pub fn plan(bytes: &[u8], p: u64, q: u64, table: &mut [i64], plan: &mut [u8]) -> Result<Planned, Refusal> {
     let net = read(bytes)?;
     if p > MOST_SHARE || !(1..=MOST_SHARE).contains(&q) {
         return Err(Refusal(9));
     }
-    if plan.len() < net.stages {
-        return Err(Refusal(10));
-    }
-    let stages = stages_of(&net);
-    let tree = tree(&net, &stages);
-    let mut known = [0; MOST_STAGES];
-    if !feasible(&tree, &mut known) {
-        return Err(Refusal(11));
-    }
-    let found = descend(&tree, table, p, q, &mut known);
+    let ready = Ready::new(net, plan.len())?;
+    let mut known = ready.known;
+    let found = descend(&ready.tree, table, p, q, &mut known);
     table.fill(0);
     let (k, value) = found.ok_or(Refusal(12))?;
-    plan[..net.stages].copy_from_slice(&known[..net.stages]);
-    let Judged { cost, slack } = judged(&net, &stages, &known[..net.stages]);
+    let Judged { cost, slack } = ready.hand_out(&known, plan);
     Ok(Planned { cost, slack, k, floor: (value as u64) << k })
+}
+
+/// Plan by rounds.
+pub fn plan_rounds(bytes: &[u8], r: u64, table: &mut [i64], plan: &mut [u8]) -> Result<RoundsPlanned, Refusal> {
+    let net = read(bytes)?;
+    if !(1..=MOST_ROUNDS).contains(&r) {
+        return Err(Refusal(14));
+    }
+    let ready = Ready::new(net, plan.len())?;
+    if table.len() < ready.net.stages + 2 {
+        table.fill(0);
+        return Err(Refusal(12));
+    }
+    let found = run_rounds(&ready.tree, table, r, ready.known);
+    table.fill(0);
+    let Judged { cost, slack } = ready.hand_out(&found.cheapest, plan);
+    Ok(RoundsPlanned { cost, slack, floor: found.floor, rounds: found.run })
 }

@@ -2,7 +2,7 @@
 
 use crate::blocks::Block;
 use crate::families::Case;
-use crate::library::{self, Planned, Refusal};
+use crate::library::{self, Planned, Refusal, MOST_ROUNDS};
 use crate::measure::{Call, Profile};
 use std::time::Duration;
 
@@ -14,6 +14,7 @@ fn name(call: Call) -> String {
         Call::Check => String::from("check"),
         Call::Judge => String::from("judge"),
         Call::Plan { p, q } => format!("plan {p}/{q}"),
+        Call::Rounds { r } => format!("{r} rounds"),
     }
 }
 
@@ -37,31 +38,52 @@ fn two_places(value: Option<f64>) -> String {
 
 /// One row for each net and call, then averages and the worst for each call.
 pub fn ratios(cases: &[Case], calls: &[Call], measured: &[Measured]) {
+    let names: Vec<String> = calls.iter().map(|&call| name(call)).collect();
+    let labels = cases.iter().flat_map(|case| names.iter().map(move |call| (case.name.as_str(), call.clone())));
+    rows(labels.zip(measured));
+    averages(&names, measured);
+}
+
+/// All rounds are to execute at most so many times the peer's instructions, on the average of the nets of a kind.
+const ROUNDS_BOUND: f64 = 1.2;
+
+/// The same for all rounds; where they ended early, how many were run. Fails where the bound is not kept.
+pub fn rounds(cases: &[Case], run: &[u64], measured: &[Measured]) {
+    let all = name(Call::Rounds { r: MOST_ROUNDS });
+    let ended = |run: u64| if run < MOST_ROUNDS { format!("{all}, {run} run") } else { all.clone() };
+    let labels = cases.iter().zip(run).map(|(case, &run)| (case.name.as_str(), ended(run)));
+    rows(labels.zip(measured));
+    averages(&[all.clone()], measured);
+    let counted: Option<Vec<f64>> = measured.iter().map(|row| ratio(row).0).collect();
+    assert!(
+        counted.map_or(true, |ratios| mean(&ratios) <= ROUNDS_BOUND),
+        "more than {ROUNDS_BOUND} times the peer's instructions"
+    );
+}
+
+fn rows<'a>(rows: impl Iterator<Item = ((&'a str, String), &'a Measured)>) {
     println!("| net | call | instructions, library | peer | ratio | µs, library | peer | ratio |");
     println!("|---|---|---:|---:|---:|---:|---:|---:|");
-    for (case, rows) in cases.iter().zip(measured.chunks(calls.len())) {
-        for (&call, row) in calls.iter().zip(rows) {
-            let (by_instructions, by_time) = ratio(row);
-            let [library, peer] = [0, 1].map(|side| shown(row.0.map(|counted| counted[side])));
-            let [fast, slow] = row.1.map(micro);
-            let ratios = two_places(by_instructions);
-            println!(
-                "| {} | {} | {library} | {peer} | {ratios} | {fast:.1} | {slow:.1} | {by_time:.2} |",
-                case.name,
-                name(call)
-            );
-        }
+    for ((net, call), row) in rows {
+        let (by_instructions, by_time) = ratio(row);
+        let [library, peer] = [0, 1].map(|side| shown(row.0.map(|counted| counted[side])));
+        let [fast, slow] = row.1.map(micro);
+        let ratios = two_places(by_instructions);
+        println!("| {net} | {call} | {library} | {peer} | {ratios} | {fast:.1} | {slow:.1} | {by_time:.2} |");
     }
     println!();
+}
+
+fn averages(calls: &[String], measured: &[Measured]) {
     println!("| call | instructions: average ratio | worst | time: average ratio | worst |");
     println!("|---|---:|---:|---:|---:|");
-    for (place, &call) in calls.iter().enumerate() {
+    for (place, call) in calls.iter().enumerate() {
         let of_call: Vec<_> = measured.iter().skip(place).step_by(calls.len()).map(ratio).collect();
         let counted: Option<Vec<f64>> = of_call.iter().map(|row| row.0).collect();
         let timed: Vec<f64> = of_call.iter().map(|row| row.1).collect();
         let (average, worst) = (counted.as_ref().map(|all| mean(all)), counted.as_ref().map(|all| most(all)));
         let (average, worst) = (two_places(average), two_places(worst));
-        println!("| {} | {average} | {worst} | {:.2} | {:.2} |", name(call), mean(&timed), most(&timed));
+        println!("| {call} | {average} | {worst} | {:.2} | {:.2} |", mean(&timed), most(&timed));
     }
     println!();
 }
@@ -149,6 +171,7 @@ pub fn excess(cases: &[Case], shares: &[(u64, u64)]) {
             .collect();
         println!("| {} | {cheapest} | {} |", case.name, found.join(" | "));
     }
+    println!();
 }
 
 fn percent(part: u64, whole: u64) -> f64 {

@@ -1,7 +1,8 @@
 //! A block, and what 02 says of it: each net planned by the plain search, "as 01's program does".
 
+use crate::asked::Asked;
 use crate::c_calls::Totals;
-use crate::compare::{Asked, Case};
+use crate::compare::{broken, Case};
 use crate::plain::{self, PlannedNet};
 use std::collections::BTreeSet;
 
@@ -38,12 +39,11 @@ impl Block {
     pub fn faults(&self, found: &Totals) -> Vec<String> {
         let wire: i128 = found.lengths.iter().map(|&length| length as i128).sum();
         let told = found.planned as i128 + found.refused.iter().map(|&count| count as i128).sum::<i128>();
-        let laws = [
+        broken(&[
             (found == &self.totals, "the totals"),
             (wire == self.wire, "the lengths over layers do not add up to the wire of the planned nets"),
             (told == found.nets as i128, "planned and refused nets do not add up to the nets"),
-        ];
-        laws.iter().filter(|(holds, _)| !holds).map(|(_, otherwise)| String::from(*otherwise)).collect()
+        ])
     }
 }
 

@@ -1,10 +1,12 @@
 //! One call, compared: what an implementation answers and leaves in the lent buffers, against what 01 says.
 
+use crate::asked::{Asked, Left, Planning, Rounds, Share};
 use crate::block::Block;
 use crate::by_front::Fronts;
 use crate::host::{Host, Interface};
+use crate::met::Met;
 use crate::nets::Random;
-use crate::plain::{self, Checked, Enumeration, Judged, Net, Planned, Search};
+use crate::plain::{self, Checked, Enumeration, Judged, Net, RoundsPlanned, Search};
 
 /// Bytes in hexadecimal.
 pub fn hex(bytes: &[u8]) -> String {
@@ -36,7 +38,7 @@ pub struct Case {
     pub name: String,
     pub bytes: Vec<u8>,
     pub read: Result<Net, u8>,
-    search: Option<Box<dyn Search>>,
+    search: Option<Box<dyn Search + Send + Sync>>,
     /// The most columns for which the search decides; without limit if every k was worked out.
     widest: i128,
 }
@@ -83,13 +85,18 @@ impl Case {
 
     /// What is known about the plans that meet timing; nothing if there is none.
     pub fn search(&self) -> Option<&dyn Search> {
-        self.search.as_deref().filter(|search| search.any())
+        let search: &dyn Search = self.search.as_deref()?;
+        search.any().then_some(search)
     }
 
     /// The columns needed for a share, if they are known.
     pub fn needed_columns(&self, p: u64, q: u64) -> Option<i128> {
-        let search = self.search()?;
-        let needed = search.least_rounded(plain::grain(search, self.stages(), p, q)) + 1;
+        self.columns_at(plain::grain(self.search()?, self.stages(), p, q))
+    }
+
+    /// The columns needed at k, if they are known.
+    pub fn columns_at(&self, k: u32) -> Option<i128> {
+        let needed = self.search()?.least_rounded(k) + 1;
         (needed <= self.widest).then_some(needed)
     }
 
@@ -110,120 +117,17 @@ impl Case {
     }
 
     /// What planning answers and leaves in table and buffer.
-    pub fn planned(&self, asked: &Asked) -> Left {
-        let (mut table, mut buffer) = (asked.table.clone(), asked.buffer.clone());
-        let answer = match &self.read {
-            Err(refusal) => Planned { refusal: *refusal, ..Default::default() },
+    pub fn planned<P: Planning>(&self, asked: &Asked<P>) -> Left<P::Answer> {
+        asked.left_by(|table, buffer| match &self.read {
+            Err(refusal) => P::refused(*refusal),
             Ok(net) => {
                 let columns = plain::columns(table.len(), self.stages());
                 assert!(columns <= self.widest, "the search decides no such table");
                 let search = self.search.as_deref().expect("a searched net");
-                plain::plan_net(net, search, asked.p, asked.q, &mut table, &mut buffer)
+                asked.terms.put_to_plain(net, search, table, buffer)
             }
-        };
-        Left { answer, table, buffer }
+        })
     }
-}
-
-// ------------------------------------------------------------------------------------------------
-// A planning call
-// ------------------------------------------------------------------------------------------------
-
-/// What planning is asked besides the net, and what table and buffer hold beforehand.
-pub struct Asked {
-    pub p: u64,
-    pub q: u64,
-    pub table: Vec<i64>,
-    pub buffer: Vec<u8>,
-    /// The garbage in the table: its kind and seed. None: what the same call left there.
-    garbage: Option<(usize, u64)>,
-}
-
-/// What planning answers, and what table and buffer hold afterwards.
-pub struct Left {
-    pub answer: Planned,
-    pub table: Vec<i64>,
-    pub buffer: Vec<u8>,
-}
-
-impl Left {
-    /// With an answer and its plan, where there is one: "The plan's s bytes open the buffer; later bytes keep their
-    /// values. The table is all zero after acceptance and after 12, and unchanged after 1 to 11."
-    pub fn beside(answer: Planned, plan: &[u8], asked: &Asked) -> Left {
-        let (mut table, mut buffer) = (asked.table.clone(), asked.buffer.clone());
-        buffer[..plan.len()].copy_from_slice(plan);
-        if [0, 12].contains(&answer.refusal) {
-            table.fill(0);
-        }
-        Left { answer, table, buffer }
-    }
-}
-
-impl Asked {
-    /// With nothing in table and buffer.
-    pub fn empty(p: u64, q: u64, table_len: usize, buffer_len: usize) -> Asked {
-        Asked { p, q, table: vec![0; table_len], buffer: vec![0; buffer_len], garbage: None }
-    }
-
-    /// As 01's program plans a net.
-    pub fn by_program() -> Asked {
-        let (p, q) = plain::PROGRAM_SHARE;
-        Asked::empty(p, q, plain::PROGRAM_TABLE, plain::PROGRAM_BUFFER)
-    }
-
-    fn words(&self) -> String {
-        let Asked { p, q, table, buffer, .. } = self;
-        format!("share {p}/{q}, table {}, buffer {}", table.len(), buffer.len())
-    }
-
-    /// What table and buffer hold.
-    fn contents(&self) -> String {
-        let table = match self.garbage {
-            Some((kind, seed)) => format!("garbage {:?} of seed {seed}", GARBAGE[kind]),
-            None => String::from("what the same call has left there"),
-        };
-        format!("table {table}, buffer {:?}", self.buffer)
-    }
-}
-
-/// What a host may have left in a table.
-const GARBAGE: &[&str] = &["any", "ends of the range", "small", "like times", "-1", "0", "largest", "least"];
-
-fn garbage(kind: usize, seed: u64, length: usize) -> Vec<i64> {
-    let mut random = Random::new(seed);
-    let mut entry = || match kind {
-        0 => random.next() as i64,
-        1 => *random.pick(&[i64::MIN, i64::MAX, -1, 1]),
-        2 => random.between(1, 1_000),
-        3 => random.between(-1_000_000_000_000_000, 1_000_000_000_000_000),
-        _ => [-1, 0, i64::MAX, i64::MIN][kind - 4],
-    };
-    (0..length).map(|_| entry()).collect()
-}
-
-/// What is wrong with what a planning call gave and left.
-pub fn faults(asked: &Asked, expected: &Left, found: &Left) -> Vec<String> {
-    let mut faults = vec![];
-    if found.answer != expected.answer {
-        faults.push(String::from("the answer"));
-    }
-    if found.buffer != expected.buffer {
-        faults.push(String::from("the plan buffer"));
-    }
-    if let Some(place) = (0..found.table.len()).find(|&place| found.table[place] != expected.table[place]) {
-        let (before, wanted, there) = (asked.table[place], expected.table[place], found.table[place]);
-        faults.push(format!("the table, first at entry {place}: {before} before, {wanted} expected, {there} found"));
-    }
-    faults
-}
-
-/// The report of a planning call: parameters, expected, found.
-fn plan_details(asked: &Asked, expected: &Left, found: &Left) -> String {
-    let said = |left: &Left| {
-        let Planned { refusal, cost, slack, k, floor } = left.answer;
-        format!("refusal {refusal} cost {cost} slack {slack} k {k} floor {floor} buffer {:?}", left.buffer)
-    };
-    format!("before:   {}\nexpected: {}\nfound:    {}", asked.contents(), said(expected), said(found))
 }
 
 // ------------------------------------------------------------------------------------------------
@@ -237,11 +141,13 @@ pub struct Comparison {
     noise: Random,
     /// Says each call on standard error before it is made.
     trace: bool,
+    /// The kinds of calls that were made, where they are counted.
+    pub met: Option<Met>,
 }
 
 impl Comparison {
     pub fn new(interface: Interface, trace: bool) -> Comparison {
-        Comparison { host: Host::new(interface), passed: 0, noise: Random::new(77), trace }
+        Comparison { host: Host::new(interface), passed: 0, noise: Random::new(77), trace, met: None }
     }
 
     /// Check, against the plain search.
@@ -272,30 +178,63 @@ impl Comparison {
         self.settle(call, &case.bytes, faults, || format!("expected: {expected:?}\nfound:    {found:?}"))
     }
 
-    /// Plan, against the plain search: the answer, every byte of the buffer, every entry of the table.
+    /// Plan by a share, against the plain search.
     pub fn plan(&mut self, case: &Case, p: u64, q: u64, table_len: usize, buffer_len: usize) -> Outcome {
-        let asked = self.asked(p, q, table_len, buffer_len);
+        self.plan_by(case, Share { p, q }, table_len, buffer_len)
+    }
+
+    /// Plan by rounds, against the plain search.
+    pub fn plan_rounds(&mut self, case: &Case, r: u64, table_len: usize, buffer_len: usize) -> Outcome {
+        self.plan_by(case, Rounds { r }, table_len, buffer_len)
+    }
+
+    /// Plan, against the plain search: the answer, every byte of the buffer, every entry of the table.
+    pub fn plan_by<P: Planning>(&mut self, case: &Case, terms: P, table_len: usize, buffer_len: usize) -> Outcome {
+        let asked = self.asked(terms, table_len, buffer_len);
         self.plan_gives(case, &asked, &case.planned(&asked))
     }
 
     /// The same call twice, the second time with what the first left in table and buffer.
-    pub fn plan_twice(&mut self, case: &Case, p: u64, q: u64, table_len: usize, buffer_len: usize) -> Outcome {
-        let first = self.asked(p, q, table_len, buffer_len);
+    pub fn plan_twice<P: Planning>(&mut self, case: &Case, terms: P, table_len: usize, buffer_len: usize) -> Outcome {
+        let first = self.asked(terms, table_len, buffer_len);
         let left = case.planned(&first);
         self.plan_gives(case, &first, &left)?;
-        let again = Asked { p, q, table: left.table, buffer: left.buffer, garbage: None };
+        let again = first.again(left);
         self.plan_gives(case, &again, &case.planned(&again))
     }
 
     /// Plan, against a given answer.
-    pub fn plan_gives(&mut self, case: &Case, asked: &Asked, expected: &Left) -> Outcome {
-        let call = || format!("plan, {}, {}", case.name, asked.words());
-        self.say(|| format!("{}\n  {}", call(), asked.contents()), &case.bytes);
-        let (mut table, mut buffer) = (asked.table.clone(), asked.buffer.clone());
-        let answer = self.host.plan(&case.bytes, asked.p, asked.q, &mut table, &mut buffer);
-        let found = Left { answer, table, buffer };
-        let faults = faults(asked, expected, &found);
-        self.settle(call, &case.bytes, faults, || plan_details(asked, expected, &found))
+    pub fn plan_gives<P: Planning>(&mut self, case: &Case, asked: &Asked<P>, expected: &Left<P::Answer>) -> Outcome {
+        let found = self.put(case, asked);
+        let faults = asked.faults(expected, &found);
+        let call = || planning_call(case, asked);
+        self.settle(call, &case.bytes, faults, || asked.details(expected, &found))?;
+        if let Some(met) = &mut self.met {
+            asked.terms.count(met, case, asked.table.len(), found.answer);
+        }
+        Ok(())
+    }
+
+    /// Makes a planning call.
+    fn put<P: Planning>(&mut self, case: &Case, asked: &Asked<P>) -> Left<P::Answer> {
+        self.say(|| format!("{}\n  {}", planning_call(case, asked), asked.contents()), &case.bytes);
+        asked.left_by(|table, buffer| asked.terms.put_to(&mut self.host, &case.bytes, table, buffer))
+    }
+
+    /// "With both r from 1 to 29 and the rest of the call the same, a larger r never gives a dearer plan or a lower
+    /// floor": of the answers that are found, whatever the plain search says. Nor is one call refused and another not.
+    pub fn rounds_law(&mut self, case: &Case, table_len: usize, buffer_len: usize) -> Outcome {
+        let mut asked = self.asked(Rounds { r: 1 }, table_len, buffer_len);
+        let mut fewer: Option<RoundsPlanned> = None;
+        for r in 1..=plain::MOST_ROUNDS {
+            asked.terms.r = r;
+            let found = self.put(case, &asked).answer;
+            let faults = fewer.map_or(vec![], |fewer| law_faults(&fewer, &found));
+            let call = || format!("{}, beside a smaller r", planning_call(case, &asked));
+            self.settle(call, &case.bytes, faults, || format!("fewer:    {fewer:?}\nfound:    {found:?}"))?;
+            fewer = Some(found);
+        }
+        Ok(())
     }
 
     /// The chart's number, against the rule of 02. No net has a part in it.
@@ -317,13 +256,8 @@ impl Comparison {
     }
 
     /// The parameters of a planning call, with garbage in table and buffer.
-    pub fn asked(&mut self, p: u64, q: u64, table_len: usize, buffer_len: usize) -> Asked {
-        let (kind, seed) = (self.noise.below(GARBAGE.len()), self.noise.next());
-        // The buffer holds no layer numbers, or some that may be a plan.
-        let no_layers = self.noise.one_in(2);
-        let byte = |random: &mut Random| if no_layers { random.next() as u8 | 0x80 } else { random.below(4) as u8 };
-        let buffer = (0..buffer_len).map(|_| byte(&mut self.noise)).collect();
-        Asked { p, q, table: garbage(kind, seed, table_len), buffer, garbage: Some((kind, seed)) }
+    pub fn asked<P: Planning>(&mut self, terms: P, table_len: usize, buffer_len: usize) -> Asked<P> {
+        Asked::with_garbage(terms, table_len, buffer_len, &mut self.noise)
     }
 
     /// Counts a call that passed, or reports one that did not.
@@ -350,4 +284,23 @@ impl Comparison {
             eprintln!("{}\n  net {}", call(), hex(net));
         }
     }
+}
+
+/// A planning call in one line.
+fn planning_call<P: Planning>(case: &Case, asked: &Asked<P>) -> String {
+    format!("{}, {}, {}", P::CALL, case.name, asked.words())
+}
+
+/// What is wrong with the answer to a call of more rounds.
+fn law_faults(fewer: &RoundsPlanned, found: &RoundsPlanned) -> Vec<String> {
+    broken(&[
+        (found.refusal == fewer.refusal, "another refusal than with a smaller r"),
+        (found.cost <= fewer.cost, "a dearer plan than with a smaller r"),
+        (found.floor >= fewer.floor, "a lower floor than with a smaller r"),
+    ])
+}
+
+/// Of laws, each with what is wrong otherwise: what is wrong.
+pub fn broken(laws: &[(bool, &str)]) -> Vec<String> {
+    laws.iter().filter(|(holds, _)| !holds).map(|(_, otherwise)| String::from(*otherwise)).collect()
 }

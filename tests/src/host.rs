@@ -4,8 +4,8 @@
 //! Every lent buffer is a copy with a margin of known values on both sides, and every result begins as rubbish. A
 //! write outside a buffer, or into one that is only to be read, is reported by `complaint`.
 
-use crate::c_calls::{Check, Judge, Plan, Report, TableEntries, Totals};
-use crate::plain::{Checked, Judged, Planned};
+use crate::c_calls::{Check, Judge, Plan, PlanRounds, Report, TableEntries, Totals};
+use crate::plain::{Checked, Judged, Planned, RoundsPlanned};
 
 /// The calls of an implementation, each a function of the C function's parameters.
 #[derive(Clone, Copy)]
@@ -13,6 +13,7 @@ pub struct Interface {
     pub check: unsafe fn(Check) -> u8,
     pub judge: unsafe fn(Judge) -> u8,
     pub plan: unsafe fn(Plan) -> u8,
+    pub plan_rounds: unsafe fn(PlanRounds) -> u8,
     pub table_entries: unsafe fn(TableEntries) -> u64,
     pub report: unsafe fn(Report) -> Totals,
 }
@@ -24,6 +25,7 @@ pub fn linked() -> Option<Interface> {
         check: Check::make,
         judge: Judge::make,
         plan: Plan::make,
+        plan_rounds: PlanRounds::make,
         table_entries: TableEntries::make,
         report: Report::make,
     })
@@ -88,6 +90,45 @@ fn result(name: &'static str) -> Lent<u64> {
     Lent::new(name, &[RUBBISH], RESULT_EDGE)
 }
 
+/// What a planning call is lent.
+struct LentToPlan {
+    net: Lent<u8>,
+    table: Lent<i64>,
+    plan: Lent<u8>,
+}
+
+impl LentToPlan {
+    fn new(net: &[u8], table: &[i64], plan: &[u8]) -> LentToPlan {
+        LentToPlan {
+            net: Lent::new("net", net, NET_EDGE),
+            table: Lent::new("table", table, TABLE_EDGE),
+            plan: Lent::new("plan buffer", plan, PLAN_EDGE),
+        }
+    }
+
+    /// Gives table and plan buffer back as the call left them, and says what else was written.
+    fn give_back(&self, net: &[u8], table: &mut [i64], plan: &mut [u8]) -> Option<String> {
+        table.copy_from_slice(self.table.content());
+        plan.copy_from_slice(self.plan.content());
+        self.net.written(net).or_else(|| self.table.beside()).or_else(|| self.plan.beside())
+    }
+}
+
+/// A planning call with what it is lent, beside its own parameters.
+macro_rules! lending {
+    ($lent:ident, $call:ident { $($own:tt)* }) => {
+        $call {
+            net: $lent.net.start(),
+            net_len: $lent.net.length,
+            table: $lent.table.start(),
+            table_len: $lent.table.length,
+            plan: $lent.plan.start(),
+            plan_len: $lent.plan.length,
+            $($own)*
+        }
+    };
+}
+
 /// Makes calls, and notes what was wrong with them besides their answers.
 pub struct Host {
     interface: Interface,
@@ -141,31 +182,29 @@ impl Host {
     }
 
     pub fn plan(&mut self, net: &[u8], p: u64, q: u64, table: &mut [i64], plan: &mut [u8]) -> Planned {
-        let mut lent = Lent::new("net", net, NET_EDGE);
-        let mut lent_table = Lent::new("table", table, TABLE_EDGE);
-        let mut lent_plan = Lent::new("plan buffer", plan, PLAN_EDGE);
+        let mut lent = LentToPlan::new(net, table, plan);
         let (mut cost, mut slack, mut k, mut floor) = (result("cost"), result("slack"), result("k"), result("floor"));
-        let call = Plan {
-            net: lent.start(),
-            net_len: net.len(),
-            p,
-            q,
-            table: lent_table.start(),
-            table_len: table.len(),
-            plan: lent_plan.start(),
-            plan_len: plan.len(),
-            cost: cost.start(),
-            slack: slack.start().cast(),
-            k: k.start(),
-            floor: floor.start(),
-        };
+        let (cost_to, slack_to) = (cost.start(), slack.start().cast());
+        let call = lending!(lent, Plan { p, q, cost: cost_to, slack: slack_to, k: k.start(), floor: floor.start() });
         // Safe: as above, and no two of the buffers overlap.
         let refusal = unsafe { (self.interface.plan)(call) };
-        self.complaint = lent.written(net).or_else(|| lent_table.beside()).or_else(|| lent_plan.beside());
-        table.copy_from_slice(lent_table.content());
-        plan.copy_from_slice(lent_plan.content());
+        self.complaint = lent.give_back(net, table, plan);
         let [cost, slack, k, floor] = self.results([&cost, &slack, &k, &floor]);
         Planned { refusal, cost, slack: slack as i64, k, floor }
+    }
+
+    pub fn plan_rounds(&mut self, net: &[u8], r: u64, table: &mut [i64], plan: &mut [u8]) -> RoundsPlanned {
+        let mut lent = LentToPlan::new(net, table, plan);
+        let (mut cost, mut slack) = (result("cost"), result("slack"));
+        let (mut floor, mut rounds) = (result("floor"), result("rounds"));
+        let (cost_to, slack_to) = (cost.start(), slack.start().cast());
+        let (floor_to, rounds_to) = (floor.start(), rounds.start());
+        let call = lending!(lent, PlanRounds { r, cost: cost_to, slack: slack_to, floor: floor_to, rounds: rounds_to });
+        // Safe: as above.
+        let refusal = unsafe { (self.interface.plan_rounds)(call) };
+        self.complaint = lent.give_back(net, table, plan);
+        let [cost, slack, floor, rounds] = self.results([&cost, &slack, &floor, &rounds]);
+        RoundsPlanned { refusal, cost, slack: slack as i64, floor, rounds }
     }
 
     /// Nothing is lent here, so there is nothing to complain of.

@@ -1,5 +1,6 @@
 //! The plain search written apart from document 01, the nets it is tried on, and the comparison of an implementation with it.
 
+pub mod asked;
 pub mod block;
 pub mod by_front;
 #[path = "../../hosts/c_calls.rs"]
@@ -7,6 +8,7 @@ pub mod c_calls;
 pub mod compare;
 pub mod host;
 pub mod loads;
+pub mod met;
 pub mod nets;
 pub mod plain;
 pub mod rows;

@@ -4,7 +4,8 @@
 //!     vorphiel-tests SEED [COUNT]     other random nets, more of them
 //!     vorphiel-tests --self [SEED [COUNT]]
 //!                                     no library: the plain search, the search by fronts and a third one, compared with
-//!                                     each other and with the stored answers; loads and edges of stages in several ways
+//!                                     each other and with the stored answers; loads and edges of stages in several ways;
+//!                                     and whether every kind of call by rounds was made
 //!     vorphiel-tests --mutants        no library: wrong planners in its place; says which call exposed each. And wrong
 //!                                     walks in the place of try_loads; says which net exposed each
 //!     vorphiel-tests --answers FILE   stored answers (see `stored`) with those of the library in their place
@@ -20,6 +21,7 @@ use std::process::ExitCode;
 use std::{fs, io};
 use vorphiel_tests::compare::{hex, Comparison, Failure, Outcome};
 use vorphiel_tests::host::{linked, Host, Interface};
+use vorphiel_tests::met::Met;
 use vorphiel_tests::plain::{self, Search};
 use vorphiel_tests::runs::stored::{Stored, LENGTHS_TO_1000, WITHOUT_VIAS};
 use vorphiel_tests::wrong::{self, Mistake, Walk};
@@ -183,6 +185,10 @@ type Set = fn(&mut Comparison, &Options) -> Outcome;
 
 const ALL: Set = |comparison, options| runs::all(comparison, options.seed, options.count);
 
+/// Of these, planning by rounds; and the law between its calls.
+const ROUNDS: Set = |comparison, options| runs::rounds::all(comparison, options.seed, options.count);
+const ROUNDS_LAW: Set = |comparison, _| runs::rounds::law(comparison);
+
 /// A file of stored answers, its calls, and the mistakes that they must expose alone.
 type StoredSet = (Stored, Set, fn() -> Vec<Mistake>);
 
@@ -193,8 +199,11 @@ const STORED: [StoredSet; 2] = [
 
 /// One run over an implementation: how many calls passed, and the first that did not.
 fn run(interface: Interface, set: Set, options: &Options) -> (u64, Option<Failure>) {
-    let mut comparison = Comparison::new(interface, options.trace);
-    let outcome = set(&mut comparison, options);
+    run_over(&mut Comparison::new(interface, options.trace), set, options)
+}
+
+fn run_over(comparison: &mut Comparison, set: Set, options: &Options) -> (u64, Option<Failure>) {
+    let outcome = set(comparison, options);
     (comparison.passed, outcome.err())
 }
 
@@ -218,7 +227,7 @@ fn compare_library(options: &Options) -> bool {
 }
 
 /// The search by fronts against the plain search; stored answers against both; loads and edges of stages, found in
-/// several ways; a third planner, by a table of budgets, against all of them.
+/// several ways; a third planner, by a table of budgets, against all of them, and which kinds of calls it was asked.
 fn compare_ourselves(options: &Options) -> bool {
     print!("fronts against the plain search: ");
     let Some(met) = fronts_agree(options) else { return false };
@@ -232,10 +241,16 @@ fn compare_ourselves(options: &Options) -> bool {
     let loads = runs::loads::agreement(&runs::loads::for_program(options.seed, options.count));
     println!("loads and edges from above, from below, in one pass: {}", loads.as_ref().unwrap_or_else(|fault| fault));
     print!("a table of budgets against all: ");
-    told(run(wrong::interface(Mistake::None), ALL, options), options) && stored && loads.is_ok()
+    let mut comparison = Comparison::new(wrong::interface(Mistake::None), options.trace);
+    comparison.met = Some(Met::default());
+    let right = told(run_over(&mut comparison, ALL, options), options);
+    let (lines, met) = comparison.met.unwrap_or_default().told();
+    lines.iter().for_each(|line| println!("rounds, {line}"));
+    right && met && stored && loads.is_ok()
 }
 
-/// V(k) and the first plan for every k, by both searches, whole and stopped early. How many nets can be met.
+/// V(k) and the first plan for every k, by both searches, whole and stopped early; and the plan after some rounds, with
+/// few columns. How many nets can be met.
 fn fronts_agree(options: &Options) -> Option<usize> {
     let mut random = nets::Random::new(options.seed ^ 0xF0);
     let mut met = 0;
@@ -250,7 +265,8 @@ fn fronts_agree(options: &Options) -> Option<usize> {
             return None;
         }
         for widest in [i128::MAX, 5] {
-            if !agrees(&each, &by_front::Fronts::new(&net, widest), widest) {
+            let fronts = by_front::Fronts::new(&net, widest);
+            if !agrees(&each, &fronts, widest) || rounds_by(&net, &each) != rounds_by(&net, &fronts) {
                 println!("net {number} ({family}) differs: {}", hex(&bytes));
                 return None;
             }
@@ -272,6 +288,16 @@ fn agrees(each: &plain::Enumeration, fronts: &by_front::Fronts, widest: i128) ->
             .all(|k| each.least_rounded(k) == fronts.least_rounded(k) && each.first_plan(k) == fronts.first_plan(k))
 }
 
+/// For 1 to 5 columns, which end the rounds early or not: the answer and the plan.
+fn rounds_by(net: &plain::Net, search: &dyn Search) -> Vec<(plain::RoundsPlanned, Vec<u8>)> {
+    let s = plain::stage_count(net);
+    let planned = |columns: usize| {
+        let (mut table, mut plan) = (vec![0; columns * (s + 2)], vec![0; s]);
+        (plain::plan_rounds_net(net, search, plain::MOST_ROUNDS, &mut table, &mut plan), plan)
+    };
+    (1..=5).map(planned).collect()
+}
+
 /// "With p at least 1 the needed columns never exceed s plus 2qs/p rounded up."
 fn columns_bounded(each: &plain::Enumeration, s: usize) -> bool {
     let shares = [(1, 1), (2, 1), (1_000, 1), (1, 1_000), (1, 4), (3, 7), (999, 1_000)];
@@ -291,6 +317,8 @@ fn all_exposed(options: &Options) -> bool {
         let by = format!("by stored answers alone ({}), ", file.name);
         stored &= exposed(&by, "planners", planners(mistakes(), set));
     }
+    let rounds = exposed("by rounds alone, ", "planners", planners(Mistake::of_rounds(), ROUNDS))
+        & exposed("by the law between rounds alone, ", "planners", planners(Mistake::on_rounds_law(), ROUNDS_LAW));
     print!("no mistake: ");
     let right = told(run(wrong::interface(Mistake::None), ALL, options), options);
     let nets = runs::loads::for_program(options.seed, options.count);
@@ -298,7 +326,7 @@ fn all_exposed(options: &Options) -> bool {
     let walks = exposed("loads, ", "walks", Walk::wrong().into_iter().map(walk));
     let agreement = runs::loads::agreement(&nets);
     println!("loads, no mistake: {}", agreement.as_ref().unwrap_or_else(|fault| fault));
-    whole && stored && right && walks && agreement.is_ok()
+    whole && stored && rounds && right && walks && agreement.is_ok()
 }
 
 /// A mistake in words, and by what it was exposed or what it passed.

@@ -442,6 +442,11 @@ pub fn stage_cost(net: &Net, stage: usize, layer: usize) -> i128 {
     edges.map(|node| net.nodes[node].costs[layer]).sum()
 }
 
+/// The costs of a plan's stages.
+pub fn stage_costs(net: &Net, plan: &[u8]) -> Vec<i128> {
+    (0..plan.len()).map(|stage| stage_cost(net, stage, plan[stage] as usize)).collect()
+}
+
 /// "Cost is the sum of all edge costs on their layers."
 pub fn cost(net: &Net, plan: &[u8]) -> i128 {
     (1..net.nodes.len()).map(|node| net.nodes[node].costs[plan[stage_of_edge(net, node)] as usize]).sum()
@@ -476,19 +481,20 @@ pub trait Search {
     fn known_cost(&self) -> i128;
 }
 
-/// The plans that meet timing, in plan order, each with its stages' costs; and V(k) for each k.
+/// The plans that meet timing, in plan order, each with its stages' costs; and V(k) for each k, with the place of the
+/// first plan that has it.
 pub struct Enumeration {
     meeting: Vec<(Vec<u8>, Vec<i128>)>,
-    least: Vec<i128>,
+    least: Vec<(i128, usize)>,
 }
 
 impl Enumeration {
     /// Looks at every plan of the net.
     pub fn new(net: &Net) -> Enumeration {
-        let costs_of = |plan: &[u8]| (0..plan.len()).map(|i| stage_cost(net, i, plan[i] as usize)).collect();
         let plans = all_plans(net).into_iter().filter(|plan| meets_timing(net, plan));
-        let meeting: Vec<(Vec<u8>, Vec<i128>)> = plans.map(|plan| (plan.clone(), costs_of(&plan))).collect();
-        let least_at = |k| meeting.iter().map(|(_, costs)| rounded_cost(costs, k)).min();
+        let meeting: Vec<(Vec<u8>, Vec<i128>)> = plans.map(|plan| (plan.clone(), stage_costs(net, &plan))).collect();
+        let rounded = |k, place: usize| (rounded_cost(&meeting[place].1, k), place);
+        let least_at = |k| (0..meeting.len()).map(|place| rounded(k, place)).min();
         let least = (0..=MOST_K).filter_map(least_at).collect();
         Enumeration { meeting, least }
     }
@@ -500,13 +506,11 @@ impl Search for Enumeration {
     }
 
     fn least_rounded(&self, k: u32) -> i128 {
-        self.least[k as usize]
+        self.least[k as usize].0
     }
 
     fn first_plan(&self, k: u32) -> Vec<u8> {
-        let is_least = |costs: &[i128]| rounded_cost(costs, k) == self.least_rounded(k);
-        let found = self.meeting.iter().find(|(_, costs)| is_least(costs));
-        found.expect("V(k) is the rounded cost of some plan").0.clone()
+        self.meeting[self.least[k as usize].1].0.clone()
     }
 
     fn known_cost(&self) -> i128 {
@@ -617,11 +621,8 @@ pub fn plan_net(net: &Net, search: &dyn Search, p: u64, q: u64, table: &mut [i64
     if p > 1_000 || !(1..=1_000).contains(&q) {
         return Planned { refusal: 9, ..Default::default() };
     }
-    if buffer.len() < s {
-        return Planned { refusal: 10, ..Default::default() };
-    }
-    if !search.any() {
-        return Planned { refusal: 11, ..Default::default() };
+    if let Some(refusal) = refused_before_table(s, search, buffer) {
+        return Planned { refusal, ..Default::default() };
     }
     let k = grain(search, s, p, q);
     let least = search.least_rounded(k);
@@ -629,13 +630,26 @@ pub fn plan_net(net: &Net, search: &dyn Search, p: u64, q: u64, table: &mut [i64
         table.fill(0);
         return Planned { refusal: 12, ..Default::default() };
     }
-    let plan = search.first_plan(k);
-    buffer[..s].copy_from_slice(&plan);
-    table.fill(0);
-    let judged = judge_net(net, &plan);
+    let judged = give(net, &search.first_plan(k), table, buffer);
     let floor = narrow(grain_size(k) * least);
     assert!(is_floor(p, q, judged.cost, floor, search.known_cost()), "g × V(k) keeps both bounds of 01");
     Planned { refusal: 0, cost: judged.cost, slack: judged.slack, k: k as u64, floor }
+}
+
+/// "10, plan buffer shorter than s; 11, no plan meets timing".
+fn refused_before_table(s: usize, search: &dyn Search, buffer: &[u8]) -> Option<u8> {
+    if buffer.len() < s {
+        return Some(10);
+    }
+    (!search.any()).then_some(11)
+}
+
+/// On acceptance "the plan's s bytes open the buffer", the table is all zero, and cost and slack are "as judging gives
+/// them for the plan returned".
+fn give(net: &Net, plan: &[u8], table: &mut [i64], buffer: &mut [u8]) -> Judged {
+    buffer[..plan.len()].copy_from_slice(plan);
+    table.fill(0);
+    judge_net(net, plan)
 }
 
 /// "The floor is at most the cost of every plan of the net that meets timing, and q × cost is at most (q + p) ×
@@ -754,4 +768,107 @@ pub fn report_text(totals: &Totals) -> String {
 fn lines_above_0(word: &str, counts: &[u64]) -> String {
     let above = counts.iter().enumerate().filter(|(_, &count)| count > 0);
     above.map(|(number, count)| format!("{word} {number} {count}\n")).collect()
+}
+
+// ------------------------------------------------------------------------------------------------
+// 02, wish 7: the best plan after some rounds
+// ------------------------------------------------------------------------------------------------
+
+/// "r from 1 to 29".
+pub const MOST_ROUNDS: u64 = 29;
+
+/// "The result is the cheapest plan seen by true cost, the one of the larger k among equals, with its cost and slack, the
+/// largest g × V(k) seen as floor, and the rounds run."
+#[derive(Clone, Copy, Debug, Default, PartialEq)]
+pub struct RoundsPlanned {
+    pub refusal: u8,
+    pub cost: u64,
+    pub slack: i64,
+    pub floor: u64,
+    pub rounds: u64,
+}
+
+/// A round that was run: k, with "V(k) and its plan"; and the plan's true cost.
+pub struct Round {
+    pub k: u32,
+    pub least: i128,
+    pub plan: Vec<u8>,
+    pub cost: i128,
+}
+
+impl Round {
+    /// "finding V(k) and its plan". The plan of the round before is often found again, and its cost is known.
+    fn new(net: &Net, search: &dyn Search, k: u32, before: Option<&Round>) -> Round {
+        let plan = search.first_plan(k);
+        let known = before.filter(|before| before.plan == plan).map(|before| before.cost);
+        let cost = known.unwrap_or_else(|| cost(net, &plan));
+        Round { k, least: search.least_rounded(k), plan, cost }
+    }
+}
+
+/// "rounds run at k = 28, 27, and down, r of them, each finding V(k) and its plan. They end early before a k that needs
+/// more columns than lent." "V(k) + 1 are needed" (01).
+pub fn rounds(net: &Net, search: &dyn Search, r: u64, columns: i128) -> Vec<Round> {
+    let mut rounds: Vec<Round> = vec![];
+    for k in (0..=MOST_K).rev().take(r as usize) {
+        if search.least_rounded(k) + 1 > columns {
+            break;
+        }
+        rounds.push(Round::new(net, search, k, rounds.last()));
+    }
+    rounds
+}
+
+/// "the cheapest plan seen by true cost, the one of the larger k among equals".
+pub fn cheapest_seen(rounds: &[Round]) -> &Round {
+    let first = |round: &&Round| (round.cost, MOST_K - round.k);
+    rounds.iter().min_by_key(first).expect("a round was run")
+}
+
+/// "the largest g × V(k) seen as floor".
+fn largest_floor(rounds: &[Round]) -> i128 {
+    rounds.iter().map(|round| grain_size(round.k) * round.least).max().expect("a round was run")
+}
+
+/// "For the last k run, cost minus floor must be at most s × (2^k − 1)."
+pub fn most_above_floor(s: usize, last_k: u32) -> i128 {
+    s as i128 * (grain_size(last_k) - 1)
+}
+
+/// Planning by rounds, by looking at every plan.
+pub fn plan_rounds(bytes: &[u8], r: u64, table: &mut [i64], buffer: &mut [u8]) -> RoundsPlanned {
+    match read(bytes) {
+        Err(refusal) => RoundsPlanned { refusal, ..Default::default() },
+        Ok(net) => plan_rounds_net(&net, &Enumeration::new(&net), r, table, buffer),
+    }
+}
+
+/// Planning by rounds, once the net is read: "14 for r outside 1 to 29, after 1 to 6 and before 10, 11 and 12, the
+/// share's number 9 having no part here." "12 is given where not one column is lent." "Table and plan buffer are left as
+/// in planning".
+pub fn plan_rounds_net(net: &Net, search: &dyn Search, r: u64, table: &mut [i64], buffer: &mut [u8]) -> RoundsPlanned {
+    let s = stage_count(net);
+    if !(1..=MOST_ROUNDS).contains(&r) {
+        return RoundsPlanned { refusal: 14, ..Default::default() };
+    }
+    if let Some(refusal) = refused_before_table(s, search, buffer) {
+        return RoundsPlanned { refusal, ..Default::default() };
+    }
+    let columns = columns(table.len(), s);
+    if columns == 0 {
+        table.fill(0);
+        return RoundsPlanned { refusal: 12, ..Default::default() };
+    }
+    let rounds = rounds(net, search, r, columns);
+    let judged = give(net, &cheapest_seen(&rounds).plan, table, buffer);
+    let (floor, last) = (largest_floor(&rounds), rounds.last().expect("V(28) is 0, and one column serves"));
+    assert!(judged.cost as i128 - floor <= most_above_floor(s, last.k), "02's bound on cost minus floor");
+    assert!(floor <= search.known_cost(), "no plan that meets timing costs less than the floor");
+    RoundsPlanned {
+        refusal: 0,
+        cost: judged.cost,
+        slack: judged.slack,
+        floor: narrow(floor),
+        rounds: rounds.len() as u64,
+    }
 }

@@ -1,11 +1,13 @@
 //! The rows of 01, "Nets to try", and the examples of 02, with the numbers that stand there. The plain search must give
 //! each of them too.
 
+use crate::asked::{Planning, Rounds, Share};
 use crate::block::Block;
 use crate::c_calls::Totals;
-use crate::compare::{faults, from_hex, Asked, Case, Comparison, Left, Outcome};
-use crate::nets::{block, line, net_a, net_b, Draft, Kind};
-use crate::plain::{self, Checked, Judged, Planned};
+use crate::compare::{from_hex, Case, Comparison, Outcome};
+use crate::nets::{a_of_length, block, equal_b, equal_on_three, line, net_a, net_b, rounded_b, turning_on_three};
+use crate::nets::{Draft, Kind};
+use crate::plain::{self, Checked, Judged, Planned, RoundsPlanned};
 
 /// Net A's bytes as 01 prints them.
 const NET_A: &str = "01 0008 00040001 00010001 02 0010 00000001 00000000 0000000000000000 \
@@ -21,7 +23,7 @@ const DRIVER: &str = "02 0010 00000001 00000000 0000000000000000";
 /// The slack of a line of 63 buffers on layer 0: 16 ticks are spent in stage 0, 17 in each of the others.
 const SLACK_63: i64 = 1_000_000_000_000_000 - 16 - 63 * 17;
 
-/// All rows.
+/// All rows but those of planning by rounds.
 pub fn run(c: &mut Comparison) -> Outcome {
     reading_rows(c)?;
     judging_rows(c)?;
@@ -76,29 +78,33 @@ enum Says<'a> {
     Plan(&'a [u8], u64, i64, u64, u64),
 }
 
-impl Says<'_> {
-    /// With it, what is in table and buffer afterwards.
-    fn left(&self, asked: &Asked) -> Left {
-        let (answer, plan) = match *self {
-            Says::Refused(refusal) => (Planned { refusal, ..Default::default() }, &[][..]),
-            Says::Plan(plan, cost, slack, k, floor) => (Planned { refusal: 0, cost, slack, k, floor }, plan),
-        };
-        Left::beside(answer, plan, asked)
-    }
-}
-
-/// One row of planning, with garbage in table and buffer.
+/// One row of planning.
 fn planning_row(
     c: &mut Comparison,
-    (name, bytes): (&str, &[u8]),
+    named: (&str, &[u8]),
     (p, q): (u64, u64),
-    (table_len, buffer_len): (usize, usize),
+    lengths: (usize, usize),
     says: Says,
 ) -> Outcome {
+    let said = match says {
+        Says::Refused(refusal) => (Share::refused(refusal), &[][..]),
+        Says::Plan(plan, cost, slack, k, floor) => (Planned { refusal: 0, cost, slack, k, floor }, plan),
+    };
+    row_of(c, named, Share { p, q }, lengths, said)
+}
+
+/// One row of a planning call, with garbage in table and buffer: the answer, and the plan where there is one.
+fn row_of<P: Planning>(
+    c: &mut Comparison,
+    (name, bytes): (&str, &[u8]),
+    terms: P,
+    (table_len, buffer_len): (usize, usize),
+    (answer, plan): (P::Answer, &[u8]),
+) -> Outcome {
     let case = Case::searched(name, bytes, 10_000);
-    let asked = c.asked(p, q, table_len, buffer_len);
-    let left = says.left(&asked);
-    assert_eq!(faults(&asked, &left, &case.planned(&asked)), [""; 0], "{name}");
+    let asked = c.asked(terms, table_len, buffer_len);
+    let left = asked.left_beside(answer, plan);
+    assert_eq!(asked.faults(&left, &case.planned(&asked)), [""; 0], "{name}");
     c.plan_gives(&case, &asked, &left)
 }
 
@@ -129,11 +135,7 @@ fn planning_rows(c: &mut Comparison) -> Outcome {
 /// Net A with another length, required when a length of 4,000 is just met on layer 0: "4,000 is read, 4,001 gives
 /// refusal 3" (02, wish 3), in each of the three calls. The slack is that on layer 0.
 fn length_rows(c: &mut Comparison) -> Outcome {
-    let with_length = |length: i64| {
-        let mut draft = net_a(64_168_010);
-        draft.nodes[0].length = length;
-        (format!("row: length {length}"), draft.bytes())
-    };
+    let with_length = |length: i64| (format!("row: length {length}"), a_of_length(length).bytes());
     for (length, slack) in [(1_000, 60_126_000), (1_001, 60_117_954), (4_000, 0)] {
         let (name, bytes) = with_length(length);
         reading_row(c, &name, &bytes, [0, 2, 1, 2])?;
@@ -345,4 +347,131 @@ fn report_rows(c: &mut Comparison) -> Outcome {
     row("row: a net of no bytes", &block(&[vec![]]), totals, "nets 1\nplanned 0\nrefused 1 1\ncost 0\n")?;
     let cut = &example[..example.len() - 1];
     row("row: cut short", cut, Totals { refusal: 13, ..Default::default() }, "refused 13\n")
+}
+
+/// The rows of planning by rounds (02, wish 7).
+pub fn rounds(c: &mut Comparison) -> Outcome {
+    rounds_of_b(c)?;
+    rounds_of_equals(c)?;
+    rounds_refused(c)
+}
+
+/// One row that is accepted: the plan, and cost, floor and rounds. Slack is 0.
+fn rounds_row(
+    c: &mut Comparison,
+    named: (&str, &[u8]),
+    (r, table_len): (u64, usize),
+    (plan, [cost, floor, rounds]): ([u8; 2], [u64; 3]),
+) -> Outcome {
+    let answer = RoundsPlanned { refusal: 0, cost, slack: 0, floor, rounds };
+    let (mut table, mut buffer) = (vec![1; table_len], [9; 3]);
+    let found = plain::plan_rounds(named.1, r, &mut table, &mut buffer);
+    assert_eq!((found, buffer), (answer, [plan[0], plan[1], 9]), "{}", named.0);
+    row_of(c, named, Rounds { r }, (table_len, 64), (answer, &plan))?;
+    row_of(c, named, Rounds { r }, (table_len, 2), (answer, &plan))
+}
+
+/// Of net B's plans 0 1, 1 0 and 1 1 meet timing; they cost 35, 32 and 45. V(k) is 0 from k = 28 down to 5, 1 at k = 4,
+/// 3 at k = 3, 8 at k = 2, 16 at k = 1 and 32 at k = 0; the first plan with it is 1 0 at k = 3, 1 and 0, else 0 1. A column
+/// has 4 entries.
+fn rounds_of_b(c: &mut Comparison) -> Outcome {
+    let b = net_b().bytes();
+    for (r, table_len, plan, results) in [
+        (1, 8_192, [0, 1], [35, 0, 1]),
+        (2, 8_192, [0, 1], [35, 0, 2]),
+        (23, 8_192, [0, 1], [35, 0, 23]),
+        (24, 8_192, [0, 1], [35, 0, 24]),
+        (25, 8_192, [0, 1], [35, 16, 25]),
+        (26, 8_192, [1, 0], [32, 24, 26]),
+        // The last round's plan is 0 1.
+        (27, 8_192, [1, 0], [32, 32, 27]),
+        (28, 8_192, [1, 0], [32, 32, 28]),
+        (29, 8_192, [1, 0], [32, 32, 29]),
+        // Tables that just serve a round, or just do not.
+        (1, 4, [0, 1], [35, 0, 1]),
+        (24, 4, [0, 1], [35, 0, 24]),
+        (25, 4, [0, 1], [35, 0, 24]),
+        (25, 7, [0, 1], [35, 0, 24]),
+        (29, 7, [0, 1], [35, 0, 24]),
+        (25, 8, [0, 1], [35, 16, 25]),
+        (29, 8, [0, 1], [35, 16, 25]),
+        (26, 15, [0, 1], [35, 16, 25]),
+        (26, 16, [1, 0], [32, 24, 26]),
+        (29, 35, [1, 0], [32, 24, 26]),
+        (29, 36, [1, 0], [32, 32, 27]),
+        (28, 67, [1, 0], [32, 32, 27]),
+        (28, 68, [1, 0], [32, 32, 28]),
+        (29, 131, [1, 0], [32, 32, 28]),
+        (29, 132, [1, 0], [32, 32, 29]),
+    ] {
+        let name = format!("row: B, {r} rounds, {table_len} entries");
+        rounds_row(c, (&name, &b), (r, table_len), (plan, results))?;
+    }
+    Ok(())
+}
+
+/// Where 0 1 and 1 0 cost the same, V(k) is 1, 3, 7, 15 and 32 from k = 4 down, and the first plan with it is 1 0 at k = 3,
+/// 2 and 1: 0 1 is that of the larger k. Where 1 0 costs one more, it is 1, 3, 7, 16 and 32, with 1 0 at k = 3 and 2. On
+/// three layers see `nets`: V(k) is 1, 3, 7, 15 and 32, and 2, 5, 12, 25 and 51.
+fn rounds_of_equals(c: &mut Comparison) -> Outcome {
+    let (equal, rounded) = (equal_b().bytes(), rounded_b().bytes());
+    for (r, table_len, floors) in [
+        (24, 8_192, [0, 0]),
+        (25, 8_192, [16, 16]),
+        (26, 16, [24, 24]),
+        (27, 32, [28, 28]),
+        (28, 68, [30, 32]),
+        (29, 132, [32, 32]),
+    ] {
+        for (name, bytes, floor) in [("equal", &equal, floors[0]), ("dearer", &rounded, floors[1])] {
+            let name = format!("row: 1 0 {name}, {r} rounds");
+            rounds_row(c, (&name, bytes), (r, table_len), ([0, 1], [32, floor, r]))?;
+        }
+    }
+    let (equal, turning) = (equal_on_three().bytes(), turning_on_three().bytes());
+    let (equal, turning) = (("equal", &equal), ("by turns", &turning));
+    for (r, table_len, (name, bytes), plan, [cost, floor]) in [
+        (25, 8, equal, [0, 2], [40, 16]),
+        (26, 16, equal, [2, 0], [32, 24]),
+        (28, 64, equal, [2, 0], [32, 30]),
+        // The last round's plan, 1 1, comes before 2 0 in plan order.
+        (29, 132, equal, [2, 0], [32, 32]),
+        (23, 4, turning, [0, 2], [97, 0]),
+        (24, 4, turning, [2, 0], [51, 0]),
+        (25, 12, turning, [2, 0], [51, 32]),
+        (26, 24, turning, [2, 0], [51, 40]),
+        (27, 52, turning, [2, 0], [51, 48]),
+        (28, 104, turning, [2, 0], [51, 50]),
+        (29, 208, turning, [2, 0], [51, 51]),
+    ] {
+        let name = format!("row: three layers, {name}, {r} rounds");
+        rounds_row(c, (&name, bytes), (r, table_len), (plan, [cost, floor, r]))?;
+    }
+    Ok(())
+}
+
+/// r outside 1 to 29, a buffer that is too short, no plan that meets timing, no column; and several of them.
+fn rounds_refused(c: &mut Comparison) -> Outcome {
+    let (b, late) = (net_b().bytes(), net_a(229).bytes());
+    for (refusal, bytes, r, table_len, buffer_len) in [
+        (14, &b[..], 0, 132, 2),
+        (14, &b, 30, 132, 2),
+        (14, &b, u64::MAX, 132, 2),
+        (14, &b, 0, 0, 0),
+        (14, &late, 30, 0, 0),
+        (10, &b, 29, 132, 1),
+        (10, &b, 1, 3, 0),
+        (10, &late, 1, 3, 0),
+        (11, &late, 29, 8_192, 64),
+        (11, &late, 1, 0, 1),
+        (12, &b, 1, 3, 2),
+        (12, &b, 29, 0, 64),
+        (1, &[], 0, 0, 0),
+        (1, &b[..b.len() - 1], 30, 0, 0),
+    ] {
+        let name = format!("row: {r} rounds, {table_len} entries, {buffer_len} bytes: {refusal}");
+        let said = (Rounds::refused(refusal), &[][..]);
+        row_of(c, (&name, bytes), Rounds { r }, (table_len, buffer_len), said)?;
+    }
+    Ok(())
 }

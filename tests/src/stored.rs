@@ -8,7 +8,8 @@
 //!
 //! A call is made on the net above it. Bytes and plans are hexadecimal, TABLE and BUFFER are lengths, and no plan is `-`.
 
-use crate::compare::{from_hex, hex, Asked, Case};
+use crate::asked::{Asked, Share};
+use crate::compare::{from_hex, hex, Case};
 use crate::host::Host;
 use crate::plain::{Checked, Judged, Planned};
 
@@ -124,7 +125,7 @@ impl Question {
             Question::Judge(plan) => Answer::Judge(host.judge(net, plan)),
             &Question::Plan { p, q, table_len, buffer_len } => {
                 let stages = host.check(net).stages as usize;
-                let mut asked = Asked::empty(p, q, table_len, buffer_len);
+                let mut asked = Asked::empty(Share { p, q }, table_len, buffer_len);
                 let answer = host.plan(net, p, q, &mut asked.table, &mut asked.buffer);
                 Answer::planned(answer, &asked.buffer, stages)
             }
@@ -137,7 +138,7 @@ impl Question {
             Question::Check => Answer::Check(case.checked()),
             Question::Judge(plan) => Answer::Judge(case.judged(plan)),
             &Question::Plan { p, q, table_len, buffer_len } => {
-                let left = case.planned(&Asked::empty(p, q, table_len, buffer_len));
+                let left = case.planned(&Asked::empty(Share { p, q }, table_len, buffer_len));
                 Answer::planned(left.answer, &left.buffer, case.stages())
             }
         }

@@ -8,6 +8,8 @@ pub mod Demand3
 pub mod Columns
 pub mod Call
 pub mod Floor
+pub mod RoundsCall
+pub mod Rounds
 pub mod Program
 pub mod Chart
 pub mod Totals

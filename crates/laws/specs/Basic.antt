@@ -1,8 +1,9 @@
 -- Small definitions that the rules are written with: a choice by a test, numbers in order, sums, the members that pass a test, the least of a list.
 use mathlib.Core.Bool.{Bool, true, false, _&&_, cond}
-use mathlib.Core.List.{List, [], _∷_}
-use Prim.Native.Nat.{ℕ, zero, suc, _+_, min}
-use lib.Dec.{leb}
+use mathlib.Core.Option.{Option, none, some}
+use mathlib.Core.List.{List, [], _∷_, head?}
+use Prim.Native.Nat.{ℕ, zero, suc, _+_, min, max}
+use lib.Dec.{leb, eqb}
 use lib.IntN.{ℤ, pos}
 use lib.Signed.{leZ}
 
@@ -36,6 +37,17 @@ abbrev pub keep {ℓ} : {A : Type ℓ} → (A → Bool) → List A → List A
 keep test [] = []
 keep test (x ∷ xs) = if test x then (x ∷ keep test xs) else keep test xs
 
+-- the members at the front of a list, before the first at which a test fails
+abbrev pub leading {ℓ} : {A : Type ℓ} → (A → Bool) → List A → List A
+leading test [] = []
+leading test (x ∷ xs) = if test x then (x ∷ leading test xs) else []
+
+-- what is there of a list of options, in its order
+abbrev pub somes {ℓ} : {A : Type ℓ} → List (Option A) → List A
+somes [] = []
+somes (none ∷ os) = somes os
+somes (some x ∷ os) = x ∷ somes os
+
 -- lo ≤ x ≤ hi, of numbers and of times
 abbrev pub within : ℕ → ℕ → ℕ → Bool
 within lo hi x = leb lo x && leb x hi
@@ -63,6 +75,15 @@ lowest1 f x (y ∷ ys) = min (f x) (lowest1 f y ys)
 abbrev pub lowest {ℓ} : {A : Type ℓ} → (A → ℕ) → List A → ℕ
 lowest f [] = 0
 lowest f (x ∷ xs) = lowest1 f x xs
+
+-- the first member at which f has its least value
+abbrev pub firstLowest {ℓ} : {A : Type ℓ} → (A → ℕ) → List A → Option A
+firstLowest f xs = head? (keep (λ x. eqb (f x) (lowest f xs)) xs)
+
+-- the greatest value of f over the members of a list (0 for none)
+abbrev pub highest {ℓ} : {A : Type ℓ} → (A → ℕ) → List A → ℕ
+highest f [] = 0
+highest f (x ∷ xs) = max (f x) (highest f xs)
 
 -- the largest number of 0 .. n that passes a test (0 if none does)
 unfoldable pub largest : (ℕ → Bool) → ℕ → ℕ

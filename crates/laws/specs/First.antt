@@ -2,7 +2,7 @@
 use mathlib.Core.Path.{_≡_, refl, ap, sym, _∙_}
 use mathlib.Core.Bool.{Bool, true, false}
 use mathlib.Core.Logic.{_⊎_, inl, inr}
-use mathlib.Core.Option.{none, some, Option·getD, Option·map, orElse}
+use mathlib.Core.Option.{none, some, Option·getD, Option·map, Option·some-injective, orElse}
 use mathlib.Core.List.{List, [], _∷_, _++_, map, List·Memᴰ, List·Memᴰ·head, List·Memᴰ·tail, List·Memᴰ·not-nil}
 use Prim.Native.Nat.{ℕ, zero, suc, _+_, _≤_, _<_}
 use native.Mathlib.Omega.{arith}
@@ -43,6 +43,20 @@ find-some {A = A} test d {x} (y ∷ ys) m t = go (test y) refl m (λ m. find-som
     go true e m r = refl
     go false e (List·Memᴰ·head q) r = let z : _≡_ {A = Bool} true false = sym t ∙ ap test q ∙ e in cc
     go false e (List·Memᴰ·tail m) r = r m
+
+-- The first that passes a test is the first that passes a narrower one, if it passes that too.
+pub find-narrower {ℓ} : {A : Type ℓ} (wide narrow : A → Bool) {x : A} (xs : List A) → find wide xs ≡ some x → narrow x ≡ true
+    → ((y : A) → List·Memᴰ y xs → narrow y ≡ true → wide y ≡ true) → find narrow xs ≡ some x
+find-narrower wide narrow [] e t h = e
+find-narrower {A = A} wide narrow {x} (y ∷ ys) e t h =
+    go (wide y) (narrow y) refl refl e (λ e. find-narrower wide narrow ys e t (λ z m. h z (List·Memᴰ·tail m)))
+  where
+    go : (a b : Bool) → wide y ≡ a → narrow y ≡ b → (if a then some y else find wide ys) ≡ some x → (find wide ys ≡ some x → find narrow ys ≡ some x)
+        → (if b then some y else find narrow ys) ≡ some x
+    go true true p q e r = e
+    go true false p q e r = let z : y ≡ x = Option·some-injective y x e in let c : _≡_ {A = Bool} true false = sym t ∙ (ap narrow (sym z) ∙ q) in cc
+    go false true p q e r = let c : _≡_ {A = Bool} false true = sym p ∙ h y (List·Memᴰ·head refl) q in cc
+    go false false p q e r = r e
 
 -- A scan of the numbers from i up stops at the first that passes.
 pub first-is : (test : ℕ → Bool) (i n l : ℕ) → i ≤ l → l < i + n → test l ≡ true → ((j : ℕ) → i ≤ j → j < l → test j ≡ false)

@@ -6,6 +6,7 @@ pub mod Counting
 pub mod Sums
 pub mod Integers
 pub mod Extremes
+pub mod Front
 pub mod Passing
 pub mod Appending
 pub mod Quotients

@@ -4,6 +4,7 @@ pub mod Plans
 pub mod Programme
 pub mod Timing
 pub mod Value
+pub mod Rounds
 pub mod Excess
 pub mod ReadOff
 pub mod Result

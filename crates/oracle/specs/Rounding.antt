@@ -4,7 +4,7 @@ use mathlib.Core.Path.{_≡_, refl, sym}
 use mathlib.Core.List.{List, [], _∷_}
 use Prim.Native.Nat.{ℕ, suc, _+_, _*_, _-_, _/_, _^_, _≤_, _<_}
 use native.Mathlib.Nat.{div-add-mod', mod-lt, div-mul-le-self, div-div-eq-div-mul, div-eq-of-lt, lt-div-mul-add}
-use native.Mathlib.Nat.{pow-suc, sub-le, mul-le-mul-left, lt-of-mul-lt-mul-left}
+use native.Mathlib.Nat.{div-one, pow-suc, sub-le, mul-le-mul-left, lt-of-mul-lt-mul-left}
 use native.Mathlib.Omega.{arith}
 use lib.ListN.{length}
 use Rattle.laws.specs.Basic.{sum}
@@ -19,6 +19,11 @@ rounded-below g (c ∷ cs) = omega (arith, div-mul-le-self c g, rounded-below g 
 pub rounded-above : (g : ℕ) → 0 < g → (cs : List ℕ) → sum cs ≤ g * rounded g cs + length cs * (g - 1)
 rounded-above g h [] = omega arith
 rounded-above g h (c ∷ cs) = omega (arith, div-add-mod' c g, mod-lt c h, rounded-above g h cs)
+
+-- At grain 1 nothing is rounded off.
+pub rounded-one : (cs : List ℕ) → rounded 1 cs ≡ sum cs
+rounded-one [] = refl
+rounded-one (c ∷ cs) = omega (arith, div-one c, rounded-one cs)
 
 halved : (c k : ℕ) → c / 2 ^ suc k ≡ c / 2 ^ k / 2
 halved c k = rw pow-suc (sym (div-div-eq-div-mul c (2 ^ k) 2))

@@ -20,11 +20,13 @@ use Rattle.rules.specs.Timing.{cost, slack}
 use Rattle.rules.specs.Grain.{floor}
 use Rattle.rules.specs.Reading.{accept, refuse, read}
 use Rattle.rules.specs.Planning.{maxShare, Choice, planned, cleared, plan, planAnswer}
+use Rattle.facts.specs.Accepted.{Accepted}
 use Rattle.facts.specs.Fits.{slack-fits, fits-signed}
 use Rattle.words.specs.Words.{netIn}
 use Rattle.words.specs.Held.{Held, held-accepted}
 use Rattle.tree.specs.Plans.{Fitting, fitting}
 use Rattle.demands.specs.StageNumbers.{treeOf}
+use Rattle.demands.specs.Plans.{plan-length}
 use Rattle.demands.specs.Call.{share-in, all-late, all-pass, refusedWith, plan-accepted, plan-refused}
 use Rattle.slices.specs.Laid.{Laid}
 use Rattle.rounds.specs.Problem.{Problem}
@@ -58,6 +60,16 @@ PlansNet bs p q table tableAfter buffer bufferAfter r = planAnswer r bufferAfter
 share-passes : {p q : ℕ} → Share p q → leb p maxShare && within 1 maxShare q ≡ true
 share-passes {p} {q} S = share-in p q (S .most) (S .some-part) (S .parts)
 
+-- What is a plan of the net is one as code holds it, ..
+pub plan-fitting : {n : Net} {x y : List ℕ} → isPlan n x ≡ true → y ≡ x → Fitting n y
+unfolding isPlan
+plan-fitting {n} {x} p e = rw e (fitting x (plan-length n x p) (and-right (eqb (length x) (stages n)) (areLayers n x) p))
+
+-- .. and the slack that judging tells of it is its slack, which fits.
+pub slack-told : {n : Net} → Accepted n → (x : List ℕ) {j : Judged} → j ≡ record { refusal = 0; cost = cost n x; slack = slack n x }
+    → toZ w64 (ofZ w64 (j .slack)) ≡ slack n x
+slack-told {n} A x e = ap (λ (j : Judged). toZ w64 (ofZ w64 (j .slack))) e ∙ toZ-ofZ (fits-signed (slack n x) (slack-fits A x))
+
 -- What the search found, for the net in an array: the plan that 01 chooses.
 module _ {w : List ℕ} {nodes layers s p q : ℕ} (table : List ℤ) (buffer : List ℕ) (G : Admitted w nodes layers s p q (length buffer))
     {k g v : ℕ} {after : List ℤ} {bufferAfter : List ℕ} (I : IsFound (treeOf (netIn w)) p q s table after buffer bufferAfter k g v) where
@@ -69,16 +81,7 @@ module _ {w : List ℕ} {nodes layers s p q : ℕ} (table : List ℤ) (buffer : 
 
   -- What the plan buffer then opens with is a plan of the net.
   pub plan-fits : Fitting (netIn w) (take s bufferAfter)
-  unfolding isPlan
-  plan-fits =
-      let e = and-right (eqb (length (served-net .x)) (stages (netIn w))) (areLayers (netIn w) (served-net .x)) (served-net .is-plan) in
-      rw plan-here (fitting (served-net .x) (served-net .sized) e)
-
-  pub slack-told : {j : Judged} → j ≡ record { refusal = 0; cost = cost (netIn w) (take s bufferAfter); slack = slack (netIn w) (take s bufferAfter) }
-      → toZ w64 (ofZ w64 (j .slack)) ≡ slack (netIn w) (take s bufferAfter)
-  slack-told e =
-      ap (λ (j : Judged). toZ w64 (ofZ w64 (j .slack))) e ∙
-      toZ-ofZ (fits-signed (slack (netIn w) (take s bufferAfter)) (slack-fits (held-accepted (G .held)) (take s bufferAfter)))
+  plan-fits = plan-fitting (served-net .is-plan) plan-here
 
 module _ (bs : List ℕ) (p q : ℕ) (table : List ℤ) (buffer : List ℕ) where
   -- A refusal other than 12 leaves buffer and table as they were.
@@ -105,7 +108,7 @@ module _ (bs : List ℕ) (p q : ℕ) (table : List ℤ) (buffer : List ℕ) wher
     planned-12 S = simp (hold, share-passes (G .share), room-passes, S .some-meets, S .few)
 
     -- The answers, by the outcome of the search.
-    pub late-answer : {after : List ℤ} {bufferAfter : List ℕ} → IsLate (treeOf n) p q s table after buffer bufferAfter
+    pub late-answer : {after : List ℤ} {bufferAfter : List ℕ} → IsLate (treeOf n) table after buffer bufferAfter
         → PlansNet bs p q table after buffer bufferAfter (refusedWith 11)
     late-answer I =
         let e = all-late bs p q (length table) (length buffer) hold (share-passes (G .share)) room-passes (none-meets (held-accepted (G .held)) I) in

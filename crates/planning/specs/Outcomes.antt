@@ -21,23 +21,23 @@ use Rattle.demands.specs.Plans.{some-plan-iff, some-meeting, meeting, meeting-i
 use Rattle.demands.specs.Values.{small-costs, grain-small}
 use Rattle.demands.specs.Demand2.{chosen-is}
 use Rattle.slices.specs.Laid.{Laid}
-use Rattle.rounds.specs.Problem.{Problem}
+use Rattle.rounds.specs.Problem.{Numbers, Problem}
 use Rattle.search.specs.Planned.{IsLate, IsShort, IsFound}
 
--- The search's problem, from the numbers of the net.
+-- The numbers of the net's tree of stages, ..
+pub numbers-of : {n : Net} → Accepted n → {driver wire : List ℕ} {limit : List ℤ} {costs : List ℕ} → Laid (treeOf n) driver wire limit costs
+    → {s l : ℕ} {a : ℤ} → s ≡ stages n → l ≡ layerCount n → a ≡ n .driver .arrival → Numbers (treeOf n) driver wire limit costs s l a
+numbers-of A L es el ea = record { laid = L; tree = well-formed A; stages-are = es; layers-are = el; arrival-is = ea; cheap = small-costs A }
+
+-- .. and with a share the search's problem.
 pub problem-of : {n : Net} → Accepted n → {driver wire : List ℕ} {limit : List ℤ} {costs : List ℕ} → Laid (treeOf n) driver wire limit costs
     → {s l : ℕ} {a : ℤ} {p q : ℕ} → s ≡ stages n → l ≡ layerCount n → a ≡ n .driver .arrival → p ≤ maxShare → 1 ≤ q → q ≤ maxShare
     → Problem (treeOf n) driver wire limit costs s l a p q
-problem-of A L es el ea hp hq hq′ = record {
-  numbers = record { laid = L; tree = well-formed A; stages-are = es; layers-are = el; arrival-is = ea; cheap = small-costs A };
-  share = hp;
-  some-part = hq;
-  parts = hq′;
-}
+problem-of A L es el ea hp hq hq′ = record { numbers = numbers-of A L es el ea; share = hp; some-part = hq; parts = hq′ }
 
 module _ {n : Net} (A : Accepted n) where
   -- No plan meets timing: refusal 11.
-  pub none-meets : {p q s : ℕ} {table after : List ℤ} {plan planAfter : List ℕ} → IsLate (treeOf n) p q s table after plan planAfter
+  pub none-meets : {table after : List ℤ} {plan planAfter : List ℕ} → IsLate (treeOf n) table after plan planAfter
       → ltb 0 (length (meetingPlans n)) ≡ false
   none-meets I = go (ltb 0 (length (meetingPlans n))) refl
     where
@@ -45,7 +45,8 @@ module _ {n : Net} (A : Accepted n) where
       go true e = let (x, M) = some-meeting A e in absurd (I .none x M)
       go false e = e
 
-  some-of : (x : List ℕ) → MeetingPlan (treeOf n) x → ltb 0 (length (meetingPlans n)) ≡ true
+  -- Some plan does.
+  pub some-of : (x : List ℕ) → MeetingPlan (treeOf n) x → ltb 0 (length (meetingPlans n)) ≡ true
   some-of x M = let (p, m) = meeting-is A x M in some-plan-iff n .1 (x, p, m)
 
   grain-value : (p q : ℕ) → value (treeOf n) (exponent (treeOf n) p q) ≡ leastRounded n (grainExponent n p q)

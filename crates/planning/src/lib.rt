@@ -26,10 +26,10 @@ ghost use Rattle.search.specs.Planned as search;
 ghost use Rattle.planning.specs.Calls.{Admitted, PlansNet};
 
 // What stands for no limit at all: no time that is compared with it is later.
-const NO_LIMIT: i64 = 0x4000_0000_0000_0000;
+pub const NO_LIMIT: i64 = 0x4000_0000_0000_0000;
 
 // The numbers of a net's tree of stages, for the search: for each stage its driver, and on each layer the delay to it, the limit of its sinks and its cost.
-fn numbers(
+pub fn numbers(
     words: &[u32],
     layers: usize,
     nodes: usize,

@@ -157,7 +157,7 @@ module _ {driver delay : List ℕ} {limit : List ℤ} {cost : List ℕ} {stages 
   -- At the largest grain every rounded cost is 0: the round in one column tells whether some plan meets timing.
   pub feasible-none : {T : StageTree} {r : ℕ} {table : List ℤ} {starts ends : List ℕ} {known : List ℕ} → Numbers T driver delay limit cost stages layers arrival
       → Round T maxExponent 1 table starts ends r → (r ≡ 0 → ⊥) → Feasible T stages known false
-  feasible-none {T} {r} N R n = record { some = λ e. absurd (false-true e); none = missing }
+  feasible-none {T} {r} N R n = record { chosen = λ e. absurd (false-true e); none = missing }
     where
       false-true : false ≡ true → ⊥
       false-true e = let y : _≡_ {A = ℕ} 0 1 = cc in omega arith
@@ -171,15 +171,15 @@ module _ {driver delay : List ℕ} {limit : List ℤ} {cost : List ℕ} {stages 
       → PlanRead table driver first next delay limit cost starts ends stages layers 1 (2 ^ maxExponent) arrival before after → Linked driver first next stages
       → Feasible T stages after true
   feasible-some {T = T} {r = r} {table = table} {before = before} {after = after} N R z long P L = record {
-    some = λ e. found;
+    chosen = λ e. found;
     none = λ e. absurd (true-false e);
   }
     where
       true-false : true ≡ false → ⊥
       true-false e = let y : _≡_ {A = ℕ} 0 1 = cc in omega arith
 
-      found : MeetingPlan T (planIn stages after)
+      found : firstPlan T maxExponent ≡ some (planIn stages after)
       found =
           let (x, M, f) = least-plan T maxExponent 0 (N .tree) (omega (arith, R .is)) in
           let room : (stages + 2) * 1 ≤ length table = omega (arith, N .stages-are, N .laid .delays .few-stages) in
-          first-meets T maxExponent (planIn stages after) (round-first N R L refl (omega arith) room x M P) .0
+          round-first N R L refl (omega arith) room x M P

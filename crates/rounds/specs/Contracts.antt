@@ -6,8 +6,9 @@ use mathlib.Core.List.{List}
 use Prim.Native.Nat.{ℕ, _+_, _-_, _*_, _^_, _≤_, _<_, min}
 use lib.ListN.{length, getD}
 use lib.IntN.{ℤ}
+use Rattle.rules.specs.Grain.{maxExponent}
 use Rattle.oracle.specs.Stages.{StageTree}
-use Rattle.oracle.specs.Value.{planRounded, value, firstPlan, MeetingPlan}
+use Rattle.oracle.specs.Value.{planRounded, value, firstPlan, MeetingPlan, first-meets}
 use Rattle.oracle.specs.Result.{treeLeast}
 use Rattle.fanout.specs.Contracts.{Linked}
 use Rattle.readoff.specs.Contracts.{BandsFilled}
@@ -58,10 +59,13 @@ pub record Round (T : StageTree) (k width : ℕ) (table : List ℤ) (starts ends
   pub end-most : (j : ℕ) → j < T .stages → getD ends j 0 ≤ width
   pub is : r ≡ min (treeLeast T k (width - 1)) width
 
--- feasible: whether some plan meets timing, and one that does.
+-- feasible: whether some plan meets timing, and if so the plan that 01 chooses at the largest grain.
 pub record Feasible (T : StageTree) (stages : ℕ) (known : List ℕ) (r : Bool) : Type 0 where
-  pub some : r ≡ true → MeetingPlan T (planIn stages known)
+  pub chosen : r ≡ true → firstPlan T maxExponent ≡ some (planIn stages known)
   pub none : r ≡ false → (x : List ℕ) → MeetingPlan T x → ⊥
+
+pub feasible-meets : {T : StageTree} {stages : ℕ} {known : List ℕ} {r : Bool} → Feasible T stages known r → r ≡ true → MeetingPlan T (planIn stages known)
+feasible-meets {T} {stages} {known} F e = first-meets T maxExponent (planIn stages known) (F .chosen e) .0
 
 -- The plan in `known` meets timing, and `bound` is its rounded cost.
 pub record Known (T : StageTree) (k stages : ℕ) (known : List ℕ) (bound : ℕ) : Type 0 where

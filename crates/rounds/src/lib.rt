@@ -87,8 +87,8 @@ fn value_at(
     least_column(table, 0, start, end, width, arrival)
 }
 
-// Whether some plan meets timing, and if so one that does, into the first bytes of `known`: at the largest grain every rounded cost is 0, so one column is
-// enough.
+// Whether some plan meets timing, and if so the plan that 01 chooses at the largest grain, into the first bytes of `known`: there every rounded cost is 0, so
+// one column is enough.
 pub fn feasible(
     driver: &[usize],
     first: &[usize],

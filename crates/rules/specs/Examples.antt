@@ -1,5 +1,5 @@
--- 01, 'Nets to try', the rows marked †, with their floors (02, wish 6), lengths (02, wish 3), vias (02, wish 5) and blocks to try (02, wish 2): lists of
--- inputs and results, and one proof that settles them against the rules.
+-- 01, 'Nets to try', the rows marked †, with their floors (02, wish 6), lengths (02, wish 3), vias (02, wish 5), rounds (02, wish 7) and blocks to try (02,
+-- wish 2): lists of inputs and results, and one proof that settles them against the rules.
 use mathlib.Core.Bool.{Bool, true, false, _&&_}
 use mathlib.Core.List.{List, [], _∷_, _++_, map}
 use Prim.Native.Nat.{ℕ, zero, suc, _+_, _*_, _/_, _^_, _%_}
@@ -19,6 +19,8 @@ use Rattle.rules.specs.Judging
 use Rattle.rules.specs.Judging.{judge}
 use Rattle.rules.specs.Planning
 use Rattle.rules.specs.Planning.{PlanAnswer, plan}
+use Rattle.rules.specs.Rounds
+use Rattle.rules.specs.Rounds.{RoundsAnswer, planRounds}
 use Rattle.rules.specs.Text
 use Rattle.rules.specs.Text.{ascii}
 use Rattle.rules.specs.Program
@@ -67,13 +69,21 @@ netA t = netALong 10 t
 abbrev pub netAVia : ℕ → ℕ → List ℕ
 netAVia v t = netAOn (twoViaLayers v) 10 t
 
+-- Net B on these layers, with costs a and b of its first edge, c and d of its second.
+abbrev pub netBCosts : List ℕ → ℕ → ℕ → ℕ → ℕ → List ℕ
+netBCosts layers a b c d = layers ++ (plainDriver ++ (bufferField 0 10 a b 5 1 3 ++ sinkField 1 10 c d 5 1063))
+
 -- Net B on these layers.
 abbrev pub netBOn : List ℕ → List ℕ
-netBOn layers = layers ++ (plainDriver ++ (bufferField 0 10 10 20 5 1 3 ++ sinkField 1 10 12 25 5 1063))
+netBOn layers = netBCosts layers 10 20 12 25
 
 -- Net B.
 abbrev pub netB : List ℕ
 netB = netBOn twoLayers
+
+-- Net B with costs such that the plans 0 1 and 1 0 cost 32 both: 8 and 24, 23 and 9.
+abbrev pub netBEven : List ℕ
+netBEven = netBCosts twoLayers 8 23 9 24
 
 -- The number 1 so many times, in w bytes each.
 abbrev pub ones : ℕ → ℕ → List ℕ
@@ -115,12 +125,20 @@ pub data Row : Type 0 where
   Plans : List ℕ → ℕ → ℕ → ℕ → List ℕ → ℕ → ℤ → ℕ → ℕ → Row
   -- planned and refused: net, p, q, table entries; refusal
   Refuses : List ℕ → ℕ → ℕ → ℕ → ℕ → Row
+  -- planned by rounds: net, r, table entries; plan, cost, slack, floor, rounds
+  PlansRounds : List ℕ → ℕ → ℕ → List ℕ → ℕ → ℤ → ℕ → ℕ → Row
+  -- planned by rounds and refused: net, r, table entries, bytes of the plan buffer; refusal
+  RefusesRounds : List ℕ → ℕ → ℕ → ℕ → ℕ → Row
   -- reported: block; text
   Reports : List ℕ → List ℕ → Row
 
--- A plan buffer of 64 bytes and a table, with something in them beforehand.
+-- A plan buffer of so many bytes and a table, with something in them beforehand.
+abbrev pub usedBytes : ℕ → List ℕ
+usedBytes room = replicate room 77
+
+-- The plan buffer of 64 bytes.
 abbrev pub usedBuffer : List ℕ
-usedBuffer = replicate 64 77
+usedBuffer = usedBytes 64
 
 -- The table of so many entries.
 abbrev pub usedTable : ℕ → List ℤ
@@ -136,13 +154,27 @@ answers a r c s k f buffer table =
     eqb (a .refusal) r && (eqb (a .cost) c && (sameZ (a .slack) s && (eqb (a .k) k && (eqb (a .floor) f &&
     (same eqb (a .buffer) buffer && same sameZ (a .table) table)))))
 
+-- The same of planning by rounds.
+abbrev pub answersRounds : RoundsAnswer → ℕ → ℕ → ℤ → ℕ → ℕ → List ℕ → List ℤ → Bool
+answersRounds a r c s f m buffer table =
+    eqb (a .refusal) r && (eqb (a .cost) c && (sameZ (a .slack) s && (eqb (a .floor) f && (eqb (a .rounds) m &&
+    (same eqb (a .buffer) buffer && same sameZ (a .table) table)))))
+
+-- A table that was refused with r.
+abbrev pub refusedTable : ℕ → ℕ → List ℤ
+refusedTable r m = Basic.if_then_else_ (eqb r 12) (replicate m (pos 0)) (usedTable m)
+
 -- A row holds.
 abbrev pub holds : Row → Bool
 holds (Checks bs r i s l) =
     eqb (check bs .refusal) r && (eqb (check bs .nodes) i && (eqb (check bs .stages) s && eqb (check bs .layers) l))
 holds (Judges bs x c s) = eqb (judge bs x .refusal) 0 && (eqb (judge bs x .cost) c && sameZ (judge bs x .slack) s)
 holds (Plans bs p q m x c s k f) = answers (planOn bs p q m) 0 c s k f (x ++ drop (length x) usedBuffer) (replicate m (pos 0))
-holds (Refuses bs p q m r) = answers (planOn bs p q m) r 0 (pos 0) 0 0 usedBuffer (Basic.if_then_else_ (eqb r 12) (replicate m (pos 0)) (usedTable m))
+holds (Refuses bs p q m r) = answers (planOn bs p q m) r 0 (pos 0) 0 0 usedBuffer (refusedTable r m)
+holds (PlansRounds bs r m x c s f i) =
+    answersRounds (planRounds bs r (usedTable m) usedBuffer) 0 c s f i (x ++ drop (length x) usedBuffer) (replicate m (pos 0))
+holds (RefusesRounds bs r m room t) =
+    answersRounds (planRounds bs r (usedTable m) (usedBytes room)) t 0 (pos 0) 0 0 (usedBytes room) (refusedTable t m)
 holds (Reports bs text) = same eqb (reportText bs) text
 
 -- The rows, in the order of 01. Where 01 names no table, it has 200 entries. Floors: net B has V(3) = 3 and V(4) = 1, by the plans of cost 32 (20 and 12)
@@ -203,6 +235,32 @@ viaRows =
     Checks (layersOf 1 6 3) 0 2 1 3 ∷
     []
 
+-- Rounds (02, wish 7). Net B is on four rows of columns, V(k) is 0 down to k = 5, then 1, 3, 8, 16, 32; plan 0 1 costs 35 and plan 1 0 costs 32. The rounds find
+-- 0 1 down to k = 4, 1 0 at k = 3, 0 1 again at k = 2, then 1 0: after 27 rounds the last plan is not the cheapest. A table that is short ends the rounds early.
+-- With even costs 0 1 is found first and 1 0 at k = 3: the larger k decides. Refusals in their order, 1 to 6, 14, 10, 11, 12.
+abbrev pub roundsRows : List Row
+roundsRows =
+    PlansRounds netB 1 132 (0 ∷ 1 ∷ []) 35 (pos 0) 0 1 ∷
+    PlansRounds netB 25 132 (0 ∷ 1 ∷ []) 35 (pos 0) 16 25 ∷
+    PlansRounds netB 26 132 (1 ∷ 0 ∷ []) 32 (pos 0) 24 26 ∷
+    PlansRounds netB 27 132 (1 ∷ 0 ∷ []) 32 (pos 0) 32 27 ∷
+    PlansRounds netB 29 132 (1 ∷ 0 ∷ []) 32 (pos 0) 32 29 ∷
+    PlansRounds netB 29 131 (1 ∷ 0 ∷ []) 32 (pos 0) 32 28 ∷
+    PlansRounds netB 29 36 (1 ∷ 0 ∷ []) 32 (pos 0) 32 27 ∷
+    PlansRounds netB 29 35 (1 ∷ 0 ∷ []) 32 (pos 0) 24 26 ∷
+    PlansRounds netB 29 15 (0 ∷ 1 ∷ []) 35 (pos 0) 16 25 ∷
+    PlansRounds netB 29 4 (0 ∷ 1 ∷ []) 35 (pos 0) 0 24 ∷
+    RefusesRounds netB 29 3 64 12 ∷
+    RefusesRounds netB 0 3 1 14 ∷
+    RefusesRounds netB 30 3 1 14 ∷
+    RefusesRounds netB 29 3 1 10 ∷
+    RefusesRounds (netA 229) 29 2 0 10 ∷
+    RefusesRounds (netA 229) 29 2 1 11 ∷
+    RefusesRounds (twoViaLayers 1001) 0 2 0 3 ∷
+    PlansRounds netBEven 25 132 (0 ∷ 1 ∷ []) 32 (pos 0) 16 25 ∷
+    PlansRounds netBEven 26 132 (0 ∷ 1 ∷ []) 32 (pos 0) 24 26 ∷
+    []
+
 -- Blocks: the one of 02, the empty file, a net of no bytes; and 13 for another tag, for a head and for a payload cut short after a net that is whole.
 abbrev pub reportRows : List Row
 reportRows =
@@ -215,6 +273,6 @@ reportRows =
     []
 
 -- All rows hold, by computing the definitions on them.
-pub settled : T (all (map holds (rows ++ (lengthRows ++ (viaRows ++ reportRows)))))
-unfolding Basic.largest Tree.node Tree.edges Tree.childrenOf Tree.roots Tree.stages Tree.root Tree.layerCount Tree.drives Tree.rootFrom Tree.pathFrom Tree.stageOf Tree.between Tree.edgesOf Tree.terminals Tree.areLayers Tree.isPlan Tree.plans Bytes.number Bytes.signed Bytes.fieldAt Bytes.next Bytes.dueLayers Bytes.dueDriver Bytes.dueNode Bytes.layerAt Bytes.layersAt Bytes.driverAt Bytes.kindAt Bytes.costsAt Bytes.nodeAt Bytes.isTime Bytes.isLayer Bytes.isDriver Bytes.isKind Bytes.isCosts Bytes.isNode Timing.layer Timing.edgeRes Timing.edgeCap Timing.loadFrom Timing.load Timing.edgeDelay Timing.gateRes Timing.gateIntrinsic Timing.rootVia Timing.gateDelay Timing.terminalVia Timing.wireDelay Timing.requiredFrom Timing.required Timing.slack Timing.meets Timing.edgeCost Timing.cost Timing.stageCost Timing.stageCosts Grain.roundedCost Grain.meetingPlans Grain.leastRounded Grain.floor Grain.qualifies Grain.grainExponent Grain.chosen Grain.columns Grain.columnsNeeded Reading.field Reading.children Reading.buffers Reading.hasRoom Reading.isParent Reading.nodeField Reading.nodesFrom Reading.isWhole Reading.readTo Reading.read Reading.check Judging.judged Judging.judge Planning.planned Planning.cleared Planning.plan Text.decimalFrom Text.decimal Program.refusedLine Block.dueNet Block.netField Block.payload Block.netsFrom Block.block Block.lengthOn Block.overPlanned Block.refusedNets Block.totals Block.noTotals Block.report Block.countLine Block.metLine Block.metFrom Block.totalsText Block.answerText Block.reportText
+pub settled : T (all (map holds (rows ++ (lengthRows ++ (viaRows ++ (roundsRows ++ reportRows))))))
+unfolding Basic.largest Tree.node Tree.edges Tree.childrenOf Tree.roots Tree.stages Tree.root Tree.layerCount Tree.drives Tree.rootFrom Tree.pathFrom Tree.stageOf Tree.between Tree.edgesOf Tree.terminals Tree.areLayers Tree.isPlan Tree.plans Bytes.number Bytes.signed Bytes.fieldAt Bytes.next Bytes.dueLayers Bytes.dueDriver Bytes.dueNode Bytes.layerAt Bytes.layersAt Bytes.driverAt Bytes.kindAt Bytes.costsAt Bytes.nodeAt Bytes.isTime Bytes.isLayer Bytes.isDriver Bytes.isKind Bytes.isCosts Bytes.isNode Timing.layer Timing.edgeRes Timing.edgeCap Timing.loadFrom Timing.load Timing.edgeDelay Timing.gateRes Timing.gateIntrinsic Timing.rootVia Timing.gateDelay Timing.terminalVia Timing.wireDelay Timing.requiredFrom Timing.required Timing.slack Timing.meets Timing.edgeCost Timing.cost Timing.stageCost Timing.stageCosts Grain.roundedCost Grain.meetingPlans Grain.leastRounded Grain.floor Grain.qualifies Grain.grainExponent Grain.chosen Grain.columns Grain.columnsNeeded Reading.field Reading.children Reading.buffers Reading.hasRoom Reading.isParent Reading.nodeField Reading.nodesFrom Reading.isWhole Reading.readTo Reading.read Reading.check Judging.judged Judging.judge Planning.planned Planning.cleared Planning.plan Rounds.dueRounds Rounds.roundsRun Rounds.seenPlans Rounds.cheapestSeen Rounds.highestFloor Rounds.plannedRounds Rounds.planRounds Text.decimalFrom Text.decimal Program.refusedLine Block.dueNet Block.netField Block.payload Block.netsFrom Block.block Block.lengthOn Block.overPlanned Block.refusedNets Block.totals Block.noTotals Block.report Block.countLine Block.metLine Block.metFrom Block.totalsText Block.answerText Block.reportText
 settled = tt

@@ -5,6 +5,7 @@ pub mod Grain
 pub mod Reading
 pub mod Judging
 pub mod Planning
+pub mod Rounds
 pub mod Text
 pub mod Program
 pub mod Chart

@@ -29,6 +29,9 @@ pub const MAX_CHILDREN: u16 = 2;
 // The limit of p and q (01, Planning: refusal 9); specs/Planning.antt has it for the definitions.
 pub const MAX_SHARE: u64 = 1_000;
 
+// The most rounds, one for each k from 28 down to 0 (02, wish 7: refusal 14); specs/Rounds.antt has it for the definitions.
+pub const MAX_ROUNDS: u64 = 29;
+
 // The shares of the chart, 1/1 to 1/10 (02, wish 1); specs/Chart.antt has their number for the definitions.
 pub const CHART_SHARES: u64 = 10;
 
@@ -85,6 +88,16 @@ pub struct Planned {
     pub slack: i64,
     pub k: u64,
     pub floor: u64,
+}
+
+// What planning by some rounds answers (02, wish 7): a refusal number, 0 if accepted, the cost and slack of the cheapest plan seen, the floor, and the rounds
+// run.
+pub struct RoundsPlanned {
+    pub refusal: u8,
+    pub cost: u64,
+    pub slack: i64,
+    pub floor: u64,
+    pub rounds: u64,
 }
 
 // What a report over a block answers (02, wish 2): 13 or 0; how many nets there are, how many were planned, and how many were refused with each number;

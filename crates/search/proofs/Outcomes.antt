@@ -10,7 +10,7 @@ use Rattle.oracle.specs.Stages.{StageTree}
 use Rattle.oracle.specs.Value.{MeetingPlan}
 use Rattle.rounding.specs.Contracts.{planIn}
 use Rattle.rounds.specs.Problem.{Numbers, problem-same}
-use Rattle.rounds.specs.Contracts.{Feasible}
+use Rattle.rounds.specs.Contracts.{Feasible, feasible-meets}
 use Rattle.search.specs.declared.Outcome.{Outcome}
 use Rattle.search.specs.declared.Outcome.the-variants.{Late, Short, Found}
 use Rattle.search.specs.Contracts.{DescendIn, Searched}
@@ -23,7 +23,7 @@ pub descend-in : {driver delay : List ℕ} {limit : List ℤ} {cost : List ℕ} 
     → DescendIn driver delay limit cost stages layers a p q after
 descend-in same I long F e =
     let P = problem-same same (I .problem) in
-    record { tree = I .tree; problem = P; long = omega (arith, I .long, long); meets = F (I .tree) (P .numbers) .some e }
+    record { tree = I .tree; problem = P; long = omega (arith, I .long, long); meets = feasible-meets (F (I .tree) (P .numbers)) e }
 
 -- What the descent finds is what the search finds: a plan meets timing, so that it is not late.
 pub explored : (T : StageTree) (p q stages : ℕ) (table after : List ℤ) (known : List ℕ) (r : Outcome) (x : List ℕ) → MeetingPlan T x

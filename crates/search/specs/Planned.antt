@@ -40,16 +40,16 @@ Left stages known table tableAfter plan planAfter Short = (tableAfter ≡ replic
 Left stages known table tableAfter plan planAfter (Found k g v) =
     (tableAfter ≡ replicate (length table) (pos 0)) × (planAfter ≡ planIn stages known ++ drop stages plan)
 
+-- No plan meets timing; table and plan buffer keep their values.
+pub record IsLate (T : StageTree) (table tableAfter : List ℤ) (plan planAfter : List ℕ) : Type 0 where
+  pub none : (x : List ℕ) → MeetingPlan T x → ⊥
+  pub table-kept : tableAfter ≡ table
+  pub plan-kept : planAfter ≡ plan
+
 module _ (T : StageTree) (p q stages : ℕ) (table tableAfter : List ℤ) (plan planAfter : List ℕ) where
   -- The columns of the table: its length divided by s + 2, rounded down.
   abbrev pub tableColumns : ℕ
   tableColumns = length table / (stages + 2)
-
-  -- No plan meets timing; table and plan buffer keep their values.
-  pub record IsLate : Type 0 where
-    pub none : (x : List ℕ) → MeetingPlan T x → ⊥
-    pub table-kept : tableAfter ≡ table
-    pub plan-kept : planAfter ≡ plan
 
   -- Some plan meets timing, but there are fewer than V(k) + 1 columns; the table is all zero, the plan buffer keeps its values.
   pub record IsShort : Type 0 where
@@ -70,6 +70,6 @@ module _ (T : StageTree) (p q stages : ℕ) (table tableAfter : List ℤ) (plan 
     pub plan-is : planAfter ≡ chosen ++ drop stages plan
 
   abbrev pub Planned : Outcome → Type 0
-  Planned Late = IsLate
+  Planned Late = IsLate T table tableAfter plan planAfter
   Planned Short = IsShort
   Planned (Found k g v) = IsFound k g v

@@ -21,7 +21,7 @@ ghost use Rattle.search.specs.Contracts.{TestIn, DescendIn, Searched};
 ghost use Rattle.search.specs.Planned.{PlanTreeIn, SearchIn, Explored, Left, Planned};
 
 // The largest k: 2^k is the largest grain.
-const MAX_EXPONENT: usize = 28;
+pub const MAX_EXPONENT: usize = 28;
 
 // The test of the grain g with V(k) = v at share p/q.
 fn qualifies(p: u64, q: u64, stages: usize, g: u64, v: usize) -> bool
@@ -113,7 +113,7 @@ fn clear(table: &mut [i64])
 }
 
 // The plan in the first bytes of `known` becomes that in the first bytes of `plan`.
-fn copy_plan(known: &[u8], stages: usize, plan: &mut [u8])
+pub fn copy_plan(known: &[u8], stages: usize, plan: &mut [u8])
     requires { ⌜ (stages ≤ length (now known)) × (stages ≤ length (now plan)) ⌝ }
     ensures { λ _. ⌜ now (plan .exit) ≡ planIn stages (now (known .entry)) ++ drop stages (now (plan .entry)) ⌝ }
 {
@@ -198,7 +198,7 @@ fn search_tree(
 
 // What is left behind (01, Planning): after 11 table and plan buffer as they were, after 12 the table all zero; if a plan was found the table is all zero, and
 // the plan opens the buffer.
-fn leave(outcome: Outcome, known: &[u8], stages: usize, table: &mut [i64], plan: &mut [u8])
+pub fn leave(outcome: Outcome, known: &[u8], stages: usize, table: &mut [i64], plan: &mut [u8])
     requires { ⌜ (stages ≤ length (now known)) × (stages ≤ length (now plan)) ⌝ }
     ensures { λ _. ⌜ Left stages (now (known .entry)) (now (table .entry)) (now (table .exit)) (now (plan .entry)) (now (plan .exit)) outcome ⌝ }
 {

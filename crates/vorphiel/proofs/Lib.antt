@@ -1,3 +1,4 @@
 pub mod Checking
 pub mod Judging
 pub mod Planning
+pub mod Rounds

@@ -1,14 +1,19 @@
 // The open calls of the layer planner. Each answers for every input; each contract is one equation with the rules of documents 01 and 02.
 use fields::share_in_range;
+use fields::within;
 use planning::plan_net;
 use planning::refused;
 use reader::Net;
 use reader::net_refusal;
 use reader::read;
+use rounds_planning::rounds_net;
+use rounds_planning::rounds_refused;
 use rules::Checked;
 use rules::Judged;
+use rules::MAX_ROUNDS;
 use rules::Planned;
 use rules::Report;
+use rules::RoundsPlanned;
 use timing::are_layers;
 use timing::judged;
 use timing::judging_refused;
@@ -18,9 +23,11 @@ ghost use mathlib.Core.Path.{_≡_};
 ghost use Rattle.rules.specs.Reading.{check};
 ghost use Rattle.rules.specs.Judging.{judge};
 ghost use Rattle.rules.specs.Planning.{planAnswer, plan, Demand2, Demand3};
+ghost use Rattle.rules.specs.Rounds.{roundsAnswer, planRounds, RoundsPromise};
 ghost use Rattle.rules.specs.Chart.{tableEntries};
 ghost use Rattle.rules.specs.Block.{report, BlockPromise};
 ghost use Rattle.planning.specs.Calls.{PlansNet};
+ghost use Rattle.rounds_planning.specs.Calls.{PlansRounds};
 
 // Checking (01, Reading): the counts of nodes, stages and layers of the net that the bytes hold, or the number of the first fault and zeros.
 pub fn check(net: &[u8]) -> Checked
@@ -177,6 +184,74 @@ pub extern "C" fn vorphiel_plan(
     *k = planned.k;
     *floor = planned.floor;
     planned.refusal
+}
+
+// Planning by rounds, by the refusals in their order: 1 to 6 of the net, 14, 10, and what the rounds give.
+fn planned_rounds(net: &[u8], r: u64, table: &mut [i64], buffer: &mut [u8]) -> RoundsPlanned
+    ensures { λ a. ⌜ PlansRounds (now (net .entry)) r (now (table .entry)) (now (table .exit)) (now (buffer .entry)) (now (buffer .exit)) a ⌝ }
+{
+    let mut words = [0u32; WORDS];
+    let found = read(net, true, &mut words);
+    let Net::Read {
+        nodes,
+        stages,
+        layers,
+    } = found
+    else {
+        return rounds_refused(net_refusal(found));
+    };
+    let r_in_range = within(r, 1, MAX_ROUNDS);
+    let plan_fits = stages <= buffer.len();
+    if !r_in_range {
+        return rounds_refused(14);
+    }
+    if !plan_fits {
+        return rounds_refused(10);
+    }
+    rounds_net(&words, layers, nodes, stages, r, table, buffer)
+}
+
+// The best plan after some rounds (02, wish 7): the cheapest plan of at most r rounds into the first bytes of `buffer`, its cost and slack, the floor and the
+// rounds run; or a refusal number and zeros. The clauses: all that it answers and leaves is what the definition says; what it promises in its own words. That a
+// larger r never gives a dearer plan or a lower floor is `more-rounds` in crates/demands/specs/Rounds.antt.
+pub fn plan_rounds(net: &[u8], r: u64, table: &mut [i64], buffer: &mut [u8]) -> RoundsPlanned
+    ensures { λ a. ⌜ roundsAnswer a (now (buffer .exit)) (now (table .exit)) ≡ planRounds (now (net .entry)) r (now (table .entry)) (now (buffer .entry)) ⌝ }
+    ensures { λ a. ⌜
+        RoundsPromise (now (net .entry)) r (now (table .entry)) (now (buffer .entry)) (roundsAnswer a (now (buffer .exit)) (now (table .exit)))
+        ⌝ }
+{
+    planned_rounds(net, r, table, buffer)
+}
+
+// The same for hosts in other languages: the result is the refusal number, the four numbers are left where the host says.
+#[no_mangle]
+pub extern "C" fn vorphiel_plan_rounds(
+    net: &[u8],
+    r: u64,
+    table: &mut [i64],
+    buffer: &mut [u8],
+    cost: &mut u64,
+    slack: &mut i64,
+    floor: &mut u64,
+    rounds: &mut u64,
+) -> u8
+    ensures { λ m. ⌜
+        roundsAnswer (record { refusal = m; cost = now (cost .exit); slack = now (slack .exit); floor = now (floor .exit); rounds = now (rounds .exit) })
+        (now (buffer .exit)) (now (table .exit)) ≡ planRounds (now (net .entry)) r (now (table .entry)) (now (buffer .entry))
+        ⌝ }
+    ensures { λ m. ⌜
+        RoundsPromise (now (net .entry)) r (now (table .entry)) (now (buffer .entry))
+        (roundsAnswer (record { refusal = m; cost = now (cost .exit); slack = now (slack .exit); floor = now (floor .exit); rounds = now (rounds .exit) })
+        (now (buffer .exit)) (now (table .exit)))
+        ⌝ }
+{
+    let best = plan_rounds(net, r, table, buffer);
+    *cost = best.cost;
+    let best_slack = best.slack;
+    *slack = best_slack;
+    *floor = best.floor;
+    *rounds = best.rounds;
+    best.refusal
 }
 
 // The chart's number (02, wish 1): the entries of a table that always serves a net of s stages at share 1/q, 0 where the chart has none. That planning never

@@ -1,8 +1,10 @@
 //! Random whole nets of several families.
 
 use super::draft::{Draft, Kind, Node, COST, GATE, INTRINSIC, LENGTH, MOST_LAYERS, MOST_NODES, MOST_STAGES, UNIT, VIA};
-use super::times::set_times;
+use super::named::line;
+use super::times::{leave_slack, set_times};
 use super::Random;
+use crate::plain;
 
 /// Where the next node is hung.
 #[derive(Clone, Copy, PartialEq)]
@@ -122,6 +124,26 @@ fn recipe(family: &str, random: &mut Random) -> Recipe {
 pub fn random_net(family: &str, random: &mut Random) -> Draft {
     let recipe = recipe(family, random);
     random_from(&recipe, random)
+}
+
+/// A random line of stages that trade time for cost: higher layers are faster and dearer, and some of the time that they
+/// gain is needed.
+pub fn trading(random: &mut Random) -> Draft {
+    let (stages, layers) = (random.between(3, 6), random.between(3, 4));
+    let mut draft = line(stages as usize - 1, 0);
+    draft.layers = (0..layers).map(|layer| (layers - layer, 1)).collect();
+    draft.vias = random.one_in(3).then(|| (0..layers).map(|_| random.between(0, 2)).collect());
+    let (longest, dearest) = (*random.pick(&[1, 2, 9]), *random.pick(&[8, 40, 300]));
+    for node in &mut draft.nodes {
+        node.length = random.between(1, longest);
+        node.costs = (0..layers).map(|_| random.between(1, dearest)).collect();
+        node.costs.sort();
+    }
+    leave_slack(&mut draft, 0);
+    let net = plain::read(&draft.bytes()).expect("a whole net");
+    let late = plain::slack(&net, &vec![0; stages as usize]).unsigned_abs() as usize;
+    leave_slack(&mut draft, random.below(late + 1) as i128);
+    draft
 }
 
 /// A random net at the limits: 255 nodes after the driver, 64 stages, 16 layers.

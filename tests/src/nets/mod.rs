@@ -15,8 +15,9 @@ pub use damage::{
     scrambled, too_many, unreadable,
 };
 pub use draft::{Draft, Kind, Node, LENGTH, MOST_NODES, TIME, UNIT, VIA};
-pub use grown::{at_limits, cheap, random_net, LARGE_FAMILIES, SMALL_FAMILIES};
-pub use named::{all_kinds, costing, crossed, dear_b, even_line, even_tree, full_tree, last_layer_cheapest, line};
-pub use named::{longest, net_a, net_b, no_delay, slowest, slowest_met, star};
+pub use grown::{at_limits, cheap, random_net, trading, LARGE_FAMILIES, SMALL_FAMILIES};
+pub use named::{a_of_length, all_kinds, cheaper_from, costing, crossed, dear_b, equal_b, equal_on_three, even_line};
+pub use named::{even_tree, full_tree, last_layer_cheapest, line, longest, net_a, net_b, no_delay, rounded_b, slowest};
+pub use named::{slowest_met, star, turning_on_three};
 pub use random::Random;
 pub use times::leave_slack;

@@ -17,6 +17,13 @@ pub fn net_a(required: i64) -> Draft {
     }
 }
 
+/// Net A with another length, required when a length of 4,000 is just met on layer 0.
+pub fn a_of_length(length: i64) -> Draft {
+    let mut draft = net_a(64_168_010);
+    draft.nodes[0].length = length;
+    draft
+}
+
 /// Net B.
 pub fn net_b() -> Draft {
     let buffer = Kind::Buffer { capacitance: 5, resistance: 1, intrinsic: 3 };
@@ -163,13 +170,24 @@ pub fn even_line(stages: usize, cost: i64) -> Draft {
 
 /// One stage of this cost on both layers, and no plan late.
 pub fn costing(total: i64) -> Draft {
-    let edges = (total as usize).div_ceil(COST.1 as usize);
+    costing_each([total, total])
+}
+
+/// One stage of these costs, the second a little less or the same, and no plan late.
+fn costing_each(totals: [i64; 2]) -> Draft {
+    let edges = (totals[0] as usize).div_ceil(COST.1 as usize);
     let mut draft = line(0, edges - 1);
     for (number, node) in draft.nodes.iter_mut().enumerate() {
-        let cost = if number == 0 { total - COST.1 * (edges as i64 - 1) } else { COST.1 };
-        node.costs = vec![cost, cost];
+        let cost = |total: i64| if number == 0 { total - COST.1 * (edges as i64 - 1) } else { COST.1 };
+        node.costs = totals.map(cost).to_vec();
     }
     draft
+}
+
+/// One stage that costs one less on layer 1, which shows in rounded costs from this k on down: to 27.
+pub fn cheaper_from(k: u32) -> Draft {
+    let dear = if k < 27 { 3 << k } else { 1 << k };
+    costing_each([dear, dear - 1])
 }
 
 /// A sink that is reached at once.
@@ -197,6 +215,49 @@ pub fn dear_b(times: i64, required: i64) -> Draft {
     }
     draft.nodes[1].kind = Kind::Sink { capacitance: 5, required };
     draft
+}
+
+/// Net B with these costs for the first stage and the second, and another required time.
+fn b_costing(first: &[i64], second: &[i64], required: i64) -> Draft {
+    let mut draft = dear_b(1, required);
+    draft.nodes[0].costs = first.to_vec();
+    draft.nodes[1].costs = second.to_vec();
+    draft
+}
+
+/// Net B with a longer edge at the driver: the plans 0 1, 1 0 and 1 1 meet timing, with slacks of 0, 93 and 693.
+fn longer_b(first: [i64; 2], second: [i64; 2]) -> Draft {
+    let mut draft = b_costing(&first, &second, 1_189);
+    draft.nodes[0].length = 11;
+    draft
+}
+
+/// The plans 0 1 and 1 0 both cost 32. Rounded, 1 0 costs less at k = 3, 2 and 1.
+pub fn equal_b() -> Draft {
+    longer_b([8, 15], [17, 24])
+}
+
+/// The plan 0 1 costs 32 and the plan 1 0 costs 33. Rounded, 1 0 costs less at k = 3 and 2.
+pub fn rounded_b() -> Draft {
+    longer_b([8, 15], [18, 24])
+}
+
+/// Net B with three layers, each faster by 200 ticks for an edge: plans whose layers add up to 2 or more meet timing, and
+/// those with 2 have a slack of 0.
+fn b_on_three(first: [i64; 3], second: [i64; 3]) -> Draft {
+    let layers = vec![(3, 1), (2, 1), (1, 1)];
+    Draft { layers, ..b_costing(&first, &second, 863) }
+}
+
+/// The plan 0 2 costs 40, and 1 1 and 2 0 both cost 32. Rounded, 2 0 costs less than these at k = 3, 2 and 1.
+pub fn equal_on_three() -> Draft {
+    b_on_three([9, 8, 15], [17, 24, 31])
+}
+
+/// The plan 0 2 costs 97, 2 0 costs 51, 1 1 costs 58 and 1 2 costs 52. From k = 28 down these four follow each other as
+/// the first of the least rounded cost, from k = 5, 4 and 3 on, and then 2 0 again from k = 1 on.
+pub fn turning_on_three() -> Draft {
+    b_on_three([59, 14, 29], [22, 44, 38])
 }
 
 /// A small net with nodes of all kinds: stage 0 ends at a buffer and a sink, stage 1 at two sinks.

@@ -29,14 +29,19 @@ pub fn numbers(c: &mut Comparison) -> Outcome {
 /// Nets at their limits: the same every time.
 pub fn nets(c: &mut Comparison) -> Outcome {
     let mut random = Random::new(2);
-    for (name, draft) in slow().iter().chain(&shapes(&mut random)) {
-        one_net(c, &Case::searched(name, &draft.bytes(), WIDEST), &mut random)?;
+    for (name, bytes) in each(&mut random) {
+        one_net(c, &Case::searched(&name, &bytes, WIDEST), &mut random)?;
     }
     lines(c)?;
     // V(k) beyond 16 bits in the grain's test.
     let case = Case::searched("34 stages of cost 1,000,000", &nets::even_line(34, 1_000_000).bytes(), 70_000);
     let needed = case.needed_columns(1, 1_000).filter(|&needed| needed > 65_536).expect("many columns");
     c.plan(&case, 1, 1_000, 36 * needed as usize, 34)
+}
+
+/// Each of them.
+pub fn each(random: &mut Random) -> Vec<(String, Vec<u8>)> {
+    slow().iter().chain(&shapes(random)).map(|(name, draft)| (name.clone(), draft.bytes())).collect()
 }
 
 /// Trees of a special form; as many stages, layers, nodes and terminals, and as large costs as there can be.
@@ -146,13 +151,18 @@ fn slowest_beside() -> usize {
 /// would be, if delays lost the bits from the 53rd on.
 fn lines(c: &mut Comparison) -> Outcome {
     for edges in 1..=64 {
-        let mut draft = nets::slowest(edges, 0, 0, 0);
-        draft.arrival = TIME.0;
-        let case = Case::searched(&format!("{edges} edges of the largest length"), &draft.bytes(), WIDEST);
+        let case = Case::searched(&format!("{edges} edges of the largest length"), &line_in_time(edges), WIDEST);
         c.judge(&case, &[0])?;
         c.plan(&case, 1, 4, plain::table_entries(1, 4) as usize, 1)?;
     }
     Ok(())
+}
+
+/// One of them.
+pub fn line_in_time(edges: usize) -> Vec<u8> {
+    let mut draft = nets::slowest(edges, 0, 0, 0);
+    draft.arrival = TIME.0;
+    draft.bytes()
 }
 
 /// For each k from 0 to 27 the least and the largest cost at which it is the grain's for the largest share.
@@ -170,14 +180,18 @@ fn grains(c: &mut Comparison) -> Outcome {
     Ok(())
 }
 
-/// Tables and buffers that are longer than 8 or 16 bits can say.
+/// Longer than 8 or 16 bits can say; those of tables with and without the 132 entries that net B needs.
+pub const LONG_TABLES: [usize; 6] = [65_535, 65_536, 65_537, 65_536 + 131, 65_536 + 132, 1_000_000];
+pub const LONG_BUFFERS: [usize; 8] = [255, 256, 257, 258, 65_535, 65_536, 65_537, 65_538];
+
+/// Long tables and buffers.
 fn lengths(c: &mut Comparison) -> Outcome {
     let case = Case::searched("B, long", &nets::net_b().bytes(), WIDEST);
-    for table in [65_535, 65_536, 65_537, 65_536 + 131, 65_536 + 132, 1_000_000] {
+    for table in LONG_TABLES {
         c.plan(&case, 0, 1, table, 2)?;
         c.plan(&case, 1, 4, table, 64)?;
     }
-    for buffer in [255, 256, 257, 258, 65_535, 65_536, 65_537, 65_538] {
+    for buffer in LONG_BUFFERS {
         c.plan(&case, 0, 1, 132, buffer)?;
         c.judge(&case, &vec![0; buffer])?;
     }
@@ -196,17 +210,24 @@ fn columns(c: &mut Comparison) -> Outcome {
     Ok(())
 }
 
-/// Arrival and required times at the ends of their range.
+/// Nets with arrival and required times at the ends of their range.
 fn times(c: &mut Comparison) -> Outcome {
-    for arrival in [TIME.0, TIME.0 + 1, -1, 0, 1, TIME.1 - 1, TIME.1] {
-        for required in [TIME.0, TIME.0 + 1, -1, 0, 1, TIME.1 - 1, TIME.1] {
-            let name = format!("arrival {arrival}, required {required}, no delay");
-            let case = Case::searched(&name, &nets::no_delay(arrival, required).bytes(), WIDEST);
-            c.judge(&case, &[0])?;
-            c.plan(&case, 0, 1, 6, 1)?;
-        }
+    for (name, bytes) in at_ends_of_time() {
+        let case = Case::searched(&name, &bytes, WIDEST);
+        c.judge(&case, &[0])?;
+        c.plan(&case, 0, 1, 6, 1)?;
     }
     Ok(())
+}
+
+/// Each of them.
+pub fn at_ends_of_time() -> Vec<(String, Vec<u8>)> {
+    let times = [TIME.0, TIME.0 + 1, -1, 0, 1, TIME.1 - 1, TIME.1];
+    let net = |arrival: i64, required: i64| {
+        let name = format!("arrival {arrival}, required {required}, no delay");
+        (name, nets::no_delay(arrival, required).bytes())
+    };
+    times.iter().flat_map(|&arrival| times.map(|required| net(arrival, required))).collect()
 }
 
 /// Random nets at the limits.

@@ -1,28 +1,37 @@
 //! Random whole nets: checked, judged, planned.
 
+use crate::asked::{Planning, Share};
 use crate::compare::{Case, Comparison, Outcome};
 use crate::nets::{self, Random};
 use crate::plain::{self, Search};
 
 /// Nets and shares for which the exact table would have more entries than this get shorter ones only.
-const MOST_ENTRIES: usize = 60_000;
+pub const MOST_ENTRIES: usize = 60_000;
+
+/// The calls on one net.
+pub type OneNet = fn(&mut Comparison, &Case, &mut Random) -> Outcome;
 
 /// Random nets whose plans can all be looked at.
-pub fn small_nets(c: &mut Comparison, random: &mut Random, count: usize) -> Outcome {
-    for number in 0..count {
-        let family = nets::SMALL_FAMILIES[number % nets::SMALL_FAMILIES.len()];
-        let bytes = nets::random_net(family, random).bytes();
-        one_net(c, &Case::searched(&format!("{family} {number}"), &bytes, 100_000), random)?;
-    }
-    Ok(())
+pub fn small_nets(c: &mut Comparison, random: &mut Random, count: usize, one_net: OneNet) -> Outcome {
+    random_nets(c, random, (nets::SMALL_FAMILIES, count, 100_000), one_net)
 }
 
 /// Random nets that need the search by fronts.
-pub fn large_nets(c: &mut Comparison, random: &mut Random, count: usize) -> Outcome {
+pub fn large_nets(c: &mut Comparison, random: &mut Random, count: usize, one_net: OneNet) -> Outcome {
+    random_nets(c, random, (nets::LARGE_FAMILIES, count, 2_000), one_net)
+}
+
+/// So many nets of these families in turn, searched for tables of up to `widest` columns.
+fn random_nets(
+    c: &mut Comparison,
+    random: &mut Random,
+    (families, count, widest): (&[&str], usize, i128),
+    one_net: OneNet,
+) -> Outcome {
     for number in 0..count {
-        let family = nets::LARGE_FAMILIES[number % nets::LARGE_FAMILIES.len()];
+        let family = families[number % families.len()];
         let bytes = nets::random_net(family, random).bytes();
-        one_net(c, &Case::searched(&format!("{family} {number}"), &bytes, 2_000), random)?;
+        one_net(c, &Case::searched(&format!("{family} {number}"), &bytes, widest), random)?;
     }
     Ok(())
 }
@@ -32,7 +41,8 @@ pub fn one_net(c: &mut Comparison, case: &Case, random: &mut Random) -> Outcome 
     c.check(case)?;
     judged(c, case, random)?;
     planned(c, case, random)?;
-    refused(c, case, random)
+    let bad = BAD_SHARES.iter().map(|&(p, q)| Share { p, q });
+    refused(c, case, bad, [(0, 1), (1, 4), (1_000, 1)].map(|(p, q)| Share { p, q }), random)
 }
 
 /// Judge: all plans of a small net, some of a large one; wrong lengths and wrong layers.
@@ -65,19 +75,24 @@ fn judged(c: &mut Comparison, case: &Case, random: &mut Random) -> Outcome {
 
 /// Plan: shares of all sorts, table lengths around the exact one.
 fn planned(c: &mut Comparison, case: &Case, random: &mut Random) -> Outcome {
-    let s = case.stages();
     for (p, q) in shares(case, random) {
         for length in lengths(case, p, q, random) {
-            let longer = s + random.below(70);
-            let buffer = *random.pick(&[s, s, 64, longer, 256]);
-            if random.one_in(8) {
-                c.plan_twice(case, p, q, length, buffer)?;
-            } else {
-                c.plan(case, p, q, length, buffer)?;
-            }
+            put(c, case, Share { p, q }, length, random)?;
         }
     }
     Ok(())
+}
+
+/// One call, or the same twice, with a plan buffer that is long enough.
+pub fn put<P: Planning>(c: &mut Comparison, case: &Case, terms: P, table_len: usize, random: &mut Random) -> Outcome {
+    let s = case.stages();
+    let longer = s + random.below(70);
+    let buffer = *random.pick(&[s, s, 64, longer, 256]);
+    if random.one_in(8) {
+        c.plan_twice(case, terms, table_len, buffer)
+    } else {
+        c.plan_by(case, terms, table_len, buffer)
+    }
 }
 
 /// Shares for one net.
@@ -179,16 +194,22 @@ const BAD_SHARES: &[(u64, u64)] = &[
     (1, (1 << 63) + 1),
 ];
 
-/// Plan: bad shares, and buffers that are too short.
-fn refused(c: &mut Comparison, case: &Case, random: &mut Random) -> Outcome {
+/// Plan: bad terms, and with good ones buffers that are too short.
+pub fn refused<P: Planning>(
+    c: &mut Comparison,
+    case: &Case,
+    bad: impl Iterator<Item = P>,
+    good: [P; 3],
+    random: &mut Random,
+) -> Outcome {
     let s = case.stages();
-    for &(p, q) in BAD_SHARES {
+    for terms in bad {
         let buffer = *random.pick(&[0, s - 1, s, 64]);
-        c.plan(case, p, q, random.below(200), buffer)?;
+        c.plan_by(case, terms, random.below(200), buffer)?;
     }
     for buffer in [0, s - 1, s / 2] {
-        let (p, q) = *random.pick(&[(0, 1), (1, 4), (1_000, 1)]);
-        c.plan(case, p, q, *random.pick(&[0, s + 2, 100]), buffer)?;
+        let terms = *random.pick(&good);
+        c.plan_by(case, terms, *random.pick(&[0, s + 2, 100]), buffer)?;
     }
     Ok(())
 }

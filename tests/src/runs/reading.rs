@@ -17,7 +17,9 @@ fn all_calls(c: &mut Comparison, name: &str, bytes: &[u8], random: &mut Random) 
     }
     let (p, q) = *random.pick(&[(1, 4), (0, 1), (1, 1), (0, 0), (1_001, 1)]);
     let buffer = *random.pick(&[case.stages(), 64, 0]);
-    c.plan(&case, p, q, random.below(200), buffer)
+    c.plan(&case, p, q, random.below(200), buffer)?;
+    let (r, buffer) = (*random.pick(&[1, 29, 24, 0, 30]), *random.pick(&[case.stages(), 64, 0]));
+    c.plan_rounds(&case, r, random.below(200), buffer)
 }
 
 /// Check each of these nets, and for one in so many make the other calls too.

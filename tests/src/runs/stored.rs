@@ -1,7 +1,8 @@
 //! The answers of the library before a wish of 02, on files that were read then. Wish 3: "Plans and bounds are wanted as
 //! before on all files that were accepted." Wish 5: "a tag 1 file has via resistance 0".
 
-use crate::compare::{hex, Case, Comparison, Left, Outcome};
+use crate::asked::Share;
+use crate::compare::{hex, Case, Comparison, Outcome};
 use crate::plain;
 use crate::stored::{self, Answer, Net, Question};
 use std::collections::BTreeSet;
@@ -47,8 +48,8 @@ impl Stored {
                     (Question::Check, Answer::Check(answer)) => c.check_gives(&case, *answer)?,
                     (Question::Judge(plan), Answer::Judge(answer)) => c.judge_gives(&case, plan, *answer)?,
                     (&Question::Plan { p, q, table_len, buffer_len }, Answer::Plan(answer, plan)) => {
-                        let asked = c.asked(p, q, table_len, buffer_len);
-                        c.plan_gives(&case, &asked, &Left::beside(*answer, plan, &asked))?;
+                        let asked = c.asked(Share { p, q }, table_len, buffer_len);
+                        c.plan_gives(&case, &asked, &asked.left_beside(*answer, plan))?;
                     }
                     _ => panic!("an answer to another call"),
                 }

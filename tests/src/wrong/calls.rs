@@ -1,9 +1,9 @@
-//! The three calls: refusals, results, buffers.
+//! Checking, judging and planning: refusals, results, buffers.
 
-use super::mistakes::{Call, Mistake, Other};
+use super::mistakes::{Call, Mistake, Other, Rounds};
 use super::rare::{Facts, Terms};
 use super::reading::Net;
-use super::search::{Asked, Found};
+use super::search::{Found, Lent};
 use super::timing::Timed;
 use super::{low_bits, Wrong};
 use crate::plain::{Checked, Judged, Planned};
@@ -69,7 +69,7 @@ impl Wrong {
     }
 
     /// The refusal that is given.
-    fn first(&self, call: Call, holding: &[u8]) -> Option<u8> {
+    pub fn first(&self, call: Call, holding: &[u8]) -> Option<u8> {
         let first = *holding.first()?;
         if let Mistake::Before(made, early, late) = self.mistake {
             if made == call && holding.contains(&early) && (late == first || (late == 1 && first < 7)) {
@@ -94,37 +94,50 @@ impl Wrong {
             Some(Other::Share16) => number & 0xFFFF,
             _ => number,
         };
-        let asked = Asked { p: narrow(p), q: narrow(q), table, buffer };
-        let read = self.read(bytes);
-        let (holding, found) = self.planning_refusals(&read, &asked);
+        let share = (narrow(p), narrow(q));
+        let (read, lent) = (self.read(bytes), Lent { table, buffer });
+        let search = |timed: &Timed| self.search(timed, share, lent).filter(|_| !self.makes(Other::AlwaysTwelve));
+        let (holding, found) = self.planning_refusals(Call::Plan, &read, self.bad_share(share), lent, search);
         if let Some(refusal) = self.first(Call::Plan, &holding) {
-            return self.refuse(refusal, table, buffer);
+            let left = self.refuse(Call::Plan, refusal, table, buffer);
+            let floor = if self.makes(Other::FloorBesideRefusal) { LEFT } else { left };
+            return Planned { refusal, cost: left, slack: left as i64, k: left, floor };
         }
-        let (Ok(net), Some(Found::Plan { plan, k, least })) = (read, found) else { return Planned::default() };
+        let (Ok(net), Some(Found { plan, k, least })) = (read, found) else { return Planned::default() };
         let terms = Terms { p, q, table_len: table.len(), buffer_len: buffer.len(), stages: plan.len(), least, k };
-        self.leave(&plan, &terms, table, buffer);
+        self.leave(&plan, least, table, buffer);
         self.answer(&net, &plan, &terms)
     }
 
-    /// The refusals of planning whose conditions hold, in their order, and what the search finds if it is run. Of a
-    /// net that cannot be read it is taken that it has one stage.
-    fn planning_refusals(&self, read: &Result<Net, u8>, asked: &Asked) -> (Vec<u8>, Option<Found>) {
+    /// 9 for a share that is none.
+    fn bad_share(&self, (p, q): (u64, u64)) -> Option<u8> {
+        let zero_refused = p == 0 && self.makes(Other::ZeroShareRefused);
+        (p > 1_000 || !(1..=1_000).contains(&q) || zero_refused).then_some(9)
+    }
+
+    /// The refusals of a planning call whose conditions hold, in their order, and what the search finds if it is run:
+    /// nothing where the table is too short. `bad` is the number that bad terms have. Of a net that cannot be read it is
+    /// taken that it has one stage.
+    pub fn planning_refusals<F>(
+        &self,
+        call: Call,
+        read: &Result<Net, u8>,
+        bad: Option<u8>,
+        lent: Lent,
+        search: impl FnOnce(&Timed) -> Option<F>,
+    ) -> (Vec<u8>, Option<F>) {
         let stages = read.as_ref().map_or(1, |net| net.buffers() + 1);
-        let bad_share = asked.p > 1_000 || !(1..=1_000).contains(&asked.q);
-        let zero_refused = asked.p == 0 && self.makes(Other::ZeroShareRefused);
-        let buffer_len = asked.buffer.len();
+        let buffer_len = lent.buffer.len();
         let buffer_len = if self.makes(Other::PlanLength8) { low_bits(buffer_len, 8) } else { buffer_len };
         let mut holding: Vec<u8> = read.as_ref().err().copied().into_iter().collect();
-        holding.extend((bad_share || zero_refused).then_some(9));
+        holding.extend(bad);
         holding.extend((buffer_len < stages).then_some(10));
-        let timed = read.as_ref().ok().map(|net| self.timed(net, Call::Plan));
+        let timed = read.as_ref().ok().map(|net| self.timed(net, call));
         holding.extend(timed.as_ref().is_some_and(|timed| self.late(timed)).then_some(11));
-        let mut found = None;
-        if let Some(timed) = timed.filter(|_| holding.is_empty()) {
-            found = Some(if self.makes(Other::AlwaysTwelve) { Found::Short } else { self.search(&timed, asked) });
-        }
-        let short = matches!(found, Some(Found::Short)) || asked.table.len() < stages + 2;
-        holding.extend(short.then_some(12));
+        let timed = timed.filter(|_| holding.is_empty());
+        let found = timed.as_ref().and_then(search);
+        let no_column = lent.table.len() < stages + 2 && !self.slips_in_rounds(Rounds::NoColumnAccepted);
+        holding.extend((no_column || (timed.is_some() && found.is_none())).then_some(12));
         (holding, found)
     }
 
@@ -135,28 +148,27 @@ impl Wrong {
         late || self.makes(Other::AlwaysEleven)
     }
 
-    fn refuse(&self, refusal: u8, table: &mut [i64], buffer: &mut [u8]) -> Planned {
+    /// What a refused planning call leaves in table and buffer; and what stands beside the refusal.
+    pub fn refuse(&self, call: Call, refusal: u8, table: &mut [i64], buffer: &mut [u8]) -> u64 {
         let cleared = refusal == 12 && !self.makes(Other::TableKeptAfterTwelve);
-        if cleared || self.mistake == Mistake::TableChanged(refusal) {
+        if cleared || self.mistake == Mistake::TableChanged(call, refusal) {
             let kept = if self.makes(Other::TailKeptAfterTwelve) { table.len().min(1) } else { 0 };
             let cleared = table.len() - kept;
             table[..cleared].fill(0);
         }
-        if self.mistake == Mistake::BufferChanged(refusal) {
+        if self.mistake == Mistake::BufferChanged(call, refusal) {
             buffer.fill(0);
         }
-        let left = self.beside(Call::Plan, refusal);
-        let floor = if self.makes(Other::FloorBesideRefusal) { LEFT } else { left };
-        Planned { refusal, cost: left, slack: left as i64, k: left, floor }
+        self.beside(call, refusal)
     }
 
-    /// What acceptance leaves in table and buffer.
-    fn leave(&self, plan: &[usize], terms: &Terms, table: &mut [i64], buffer: &mut [u8]) {
-        let width = terms.stages + 2;
+    /// What acceptance leaves in table and buffer, with V(k) of the last k that was looked at.
+    pub fn leave(&self, plan: &[usize], least: usize, table: &mut [i64], buffer: &mut [u8]) {
+        let width = plan.len() + 2;
         let cleared = match self.other() {
             Some(Other::TableNotCleared) => 0,
             Some(Other::TailNotCleared) => table.len() / width * width,
-            Some(Other::UnusedNotCleared) => table.len().min((terms.least + 1) * width),
+            Some(Other::UnusedNotCleared) => table.len().min((least + 1) * width),
             _ => table.len(),
         };
         table[..cleared].fill(0);
@@ -202,9 +214,7 @@ impl Wrong {
     /// The cost of the cheapest plan, where it is known to be small.
     fn cheapest(&self, timed: &Timed, known: u64) -> Option<u64> {
         let table = vec![0; (known.min(1_000) as usize + 1) * (timed.stages.len() + 2)];
-        match self.search(timed, &Asked { p: 0, q: 1, table: &table, buffer: &[] }) {
-            Found::Plan { least, .. } => Some(least as u64),
-            Found::Short => None,
-        }
+        let found = self.search(timed, (0, 1), Lent { table: &table, buffer: &[] });
+        found.map(|found| found.least as u64)
     }
 }

@@ -1,6 +1,6 @@
 //! The mistakes, each with the words it is reported by.
 
-use super::rare::{IN_PLANS, IN_SHARES};
+use super::rare::{IN_PLANS, IN_ROUNDS, IN_SHARES};
 use super::reading::NUMBERS;
 
 /// Declares an enum whose members have words.
@@ -24,6 +24,7 @@ with_words! { Call {
     Check "check",
     Judge "judge",
     Plan "plan",
+    Rounds "rounds",
 } }
 
 with_words! {
@@ -183,6 +184,12 @@ impl Timing {
     pub fn is_of_vias(self) -> bool {
         self as usize >= Timing::NoVias as usize
     }
+
+    /// Those that show where a plan is searched for: no plan that meets timing has a delay that 64 bits of floating
+    /// point cannot hold.
+    fn in_search() -> impl Iterator<Item = Timing> {
+        Timing::ALL.iter().copied().filter(|&timing| timing != Timing::Floats64)
+    }
 }
 
 with_words! {
@@ -278,7 +285,7 @@ with_words! {
         FastestPlan "the fastest plan for every share",
         StageZeroOnly "stage 0 planned well, layer 0 elsewhere",
         FixedPlan "one fixed plan",
-        Remembered "the last answer given again for the same net, share and lengths",
+        Remembered "the last answer given again for the same net, numbers and lengths",
         // Planning: results and buffers.
         CostMadeUp "g x V(k) given as cost",
         KMadeUp "k made up",
@@ -409,12 +416,142 @@ with_words! {
     }
 }
 
+with_words! {
+    /// About planning by rounds; see also `InRounds`.
+    Rounds {
+        // Refusals.
+        ZeroAccepted "r = 0 accepted",
+        OneRefused "r = 1 refused",
+        MostRefused "r = 29 refused",
+        ThirtyAccepted "r = 30 accepted",
+        LargeAccepted "every r above 29 taken for 29",
+        Asked8 "r by its low 8 bits",
+        Asked16 "r by its low 16 bits",
+        Asked31 "r by its low 31 bits",
+        Asked32 "r by its low 32 bits",
+        Asked63 "r by its low 63 bits",
+        NineForFourteen "9 for 14",
+        NineAbove1000 "9 for r above 1,000",
+        EarlyIsTwelve "12 where rounds end early",
+        K0IsTwelve "12 where the table is too short for k = 0, whatever r",
+        OneColumnIsTwelve "12 where one column is lent",
+        NoColumnAccepted "no column accepted",
+        // The rounds that are run.
+        OneMore "one round too many",
+        OneMoreUntold "one round too many, which is not counted",
+        OneLess "one round too few",
+        OneLessUntold "one round too few, which is counted",
+        AllRun "all rounds that fit, whatever r",
+        FromK27 "rounds from k = 27 on down",
+        FromK0 "rounds from k = 0 on up",
+        KSkipped "k = 2 skipped",
+        EndsColumnEarly "ended one column early",
+        EndsColumnLate "ended one column late",
+        Columns16 "the columns that a round needs by their low 16 bits",
+        EndsAtFloor "ended when the floor is the cost",
+        EndsAtSamePlan "ended by a round that gives the plan of the one before",
+        EndsAtDearer "ended by a round that gives a dearer plan than the one before",
+        // The plan that is given.
+        LastSeen "the last plan instead of the cheapest",
+        FirstSeen "the first plan instead of the cheapest",
+        DearestSeen "the dearest plan",
+        CheaperOfLastTwo "the cheaper plan of the last two rounds",
+        CheaperThanBefore "a plan taken where it is cheaper than that of the round before",
+        SmallerK "the one of the smaller k among equals",
+        FirstOfEquals "the first in plan order among equals",
+        MoreSlackOfEquals "the one with more slack among equals",
+        ByRounded "rounded cost at each round's k compared instead of true cost",
+        ByRoundedAtLast "rounded cost at the last k compared instead of true cost",
+        Compared16 "costs compared by their low 16 bits",
+        UnfitPlan "the plan of the round that did not fit among those seen",
+        // Results.
+        CostRounded "g x V(k) of the plan's round as cost",
+        CostOfLast "the last plan's cost",
+        SlackOfLast "the last plan's slack",
+        SlackOfFirst "the first plan's slack",
+        FloorZero "a floor of 0",
+        FloorIsCost "the cost as floor",
+        FloorAsWhole "the cost rounded to the last grain as a whole for floor",
+        FloorWithoutGrain "V(k) of the last round as floor, without g",
+        FloorOfFirst "the floor of the first round",
+        FloorOfBefore "the floor of the round before the last",
+        FloorOfPlan "the floor of the plan's round",
+        FloorOfUnfit "the floor of the round that did not fit",
+        Floor16 "the floor by its low 16 bits",
+        Floor24 "the floor by its low 24 bits",
+        AskedTold "r told as the rounds run",
+        UnfitCounted "the round that did not fit counted",
+        LastKTold "the last k for the rounds",
+        PlanRoundTold "the rounds up to the plan's for all",
+        FromZeroTold "rounds counted from 0",
+        // Buffers.
+        DirtyIfEarly "table not cleared where rounds end early",
+        BufferOfLast "the last plan in the buffer beside the cheapest plan's cost",
+        LastPlanBehind "the last plan left in later bytes of the buffer",
+    }
+}
+
+/// Mistakes that any planning call can make, and that calls without a fault show: timing, search, buffers.
+pub const IN_ANY_PLANNING: &[Other] = &[
+    Other::AlwaysEleven,
+    Other::ZeroSlackMisses,
+    Other::MinusOneMeets,
+    Other::BudgetsFromOne,
+    Other::SmallerTime,
+    Other::BranchesShare,
+    Other::BranchesInStep,
+    Other::StaleTable,
+    Other::BoundShort,
+    Other::LastPlan,
+    Other::CheaperTie,
+    Other::RoundedByEdge,
+    Other::RoundedUp,
+    Other::FastestPlan,
+    Other::FixedPlan,
+    Other::TableNotCleared,
+    Other::TableKeptAfterTwelve,
+    Other::BufferUntouched,
+    Other::LaterBytesCleared,
+];
+
+/// More mistakes of planning that can be made in rounds too.
+const MADE_IN_ROUNDS: &[Other] = &[
+    Other::PlanLength8,
+    Other::StopsWrongWay,
+    Other::ColumnsByOneMore,
+    Other::ColumnsByThreeMore,
+    Other::ColumnsRoundedUp,
+    Other::Table16,
+    Other::LastLayerOfRoot,
+    Other::LastLayerElsewhere,
+    Other::LastLayerAtEnd,
+    Other::LastLayerInSecondBranch,
+    Other::FarTie,
+    Other::StaleBuffer,
+    Other::StageZeroOnly,
+    Other::Remembered,
+    Other::TailNotCleared,
+    Other::UnusedNotCleared,
+    Other::TailKeptAfterTwelve,
+    Other::EntryBeforeTable,
+    Other::EntryBeyondTable,
+    Other::ByteBeforeBuffer,
+    Other::ByteBeyondBuffer,
+    Other::WordBesideResult,
+    Other::HalfResults,
+];
+
 /// One mistake, or none.
 #[derive(Clone, Copy, PartialEq, Debug)]
 pub enum Mistake {
     None,
     Other(Other),
     Block(Block),
+    Rounds(Rounds),
+    /// One of `IN_ANY_PLANNING` or `MADE_IN_ROUNDS`, in planning by rounds alone.
+    InRounds(Other),
+    /// The round at this k is counted, but not run.
+    RoundPassedOver(u32),
     /// About the number at a place of `NUMBERS`.
     Number(usize, Slip),
     Length(Length),
@@ -424,8 +561,8 @@ pub enum Mistake {
     /// One refusal given before another; 1 stands for 1 to 6.
     Before(Call, u8, u8),
     /// After a refusal.
-    TableChanged(u8),
-    BufferChanged(u8),
+    TableChanged(Call, u8),
+    BufferChanged(Call, u8),
     ResultsBeside(Call, u8),
     /// A result, by its place among the call's, is left unwritten: beside a refusal, or else.
     Unwritten(Call, usize, bool),
@@ -434,6 +571,10 @@ pub enum Mistake {
     RareNet(Call, usize),
     RareShare(usize),
     RareGrain(u32),
+    RareRun(usize),
+    /// By the k at which the plan was found, and by the number of rounds run.
+    RarePlanRound(u32),
+    RareRounds(u64),
 }
 
 impl Mistake {
@@ -443,15 +584,19 @@ impl Mistake {
             Mistake::None => String::from("no mistake"),
             Mistake::Other(other) => String::from(other.words()),
             Mistake::Block(slip) => format!("report: {}", slip.words()),
+            Mistake::Rounds(slip) => format!("rounds: {}", slip.words()),
+            Mistake::InRounds(other) => format!("rounds: {}", other.words()),
+            Mistake::RoundPassedOver(k) => format!("rounds: that at k = {k} counted, but not run"),
             Mistake::Number(place, slip) => format!("{}: {}", NUMBERS[place].0, slip.words()),
             Mistake::Length(slip) => String::from(slip.words()),
             Mistake::Edition(slip) => String::from(slip.words()),
             Mistake::Timing(Call::Judge, timing) => format!("{}, in judging", timing.words()),
+            Mistake::Timing(Call::Rounds, timing) => format!("{}, in rounds", timing.words()),
             Mistake::Timing(_, timing) => format!("{}, in the search", timing.words()),
             Mistake::Before(call, early, 1) => format!("{}: {early} before 1 to 6", call.words()),
             Mistake::Before(call, early, late) => format!("{}: {early} before {late}", call.words()),
-            Mistake::TableChanged(refusal) => format!("table cleared after {refusal}"),
-            Mistake::BufferChanged(refusal) => format!("plan buffer touched after {refusal}"),
+            Mistake::TableChanged(call, refusal) => format!("{}: table cleared after {refusal}", call.words()),
+            Mistake::BufferChanged(call, refusal) => format!("{}: plan buffer touched after {refusal}", call.words()),
             Mistake::ResultsBeside(call, refusal) => format!("{}: results beside refusal {refusal}", call.words()),
             Mistake::Unwritten(call, place, refused) => {
                 let when = if refused { "refusal" } else { "acceptance" };
@@ -461,10 +606,13 @@ impl Mistake {
             Mistake::RareNet(call, place) => format!("{}: slack wrong only {}", call.words(), IN_PLANS[place].0),
             Mistake::RareShare(place) => format!("plan: slack wrong only {}", IN_SHARES[place].0),
             Mistake::RareGrain(k) => format!("plan: slack wrong only at k = {k}"),
+            Mistake::RareRun(place) => format!("rounds: slack wrong only {}", IN_ROUNDS[place].0),
+            Mistake::RarePlanRound(k) => format!("rounds: slack wrong only where the plan is that of k = {k}"),
+            Mistake::RareRounds(rounds) => format!("rounds: slack wrong only where {rounds} are run"),
         }
     }
 
-    /// All of them.
+    /// All of them but those of rounds.
     pub fn all() -> Vec<Mistake> {
         let mut all = vec![];
         all.extend(Other::ALL.iter().map(|&other| Mistake::Other(other)));
@@ -477,29 +625,72 @@ impl Mistake {
         all.extend(Length::ALL.iter().map(|&slip| Mistake::Length(slip)));
         all.extend(Edition::ALL.iter().map(|&slip| Mistake::Edition(slip)));
         all.extend(Timing::ALL.iter().map(|&timing| Mistake::Timing(Call::Judge, timing)));
-        // No plan that meets timing has a delay that 64 bits of floating point cannot hold.
-        let in_search = Timing::ALL.iter().filter(|&&timing| timing != Timing::Floats64);
-        all.extend(in_search.map(|&timing| Mistake::Timing(Call::Plan, timing)));
+        all.extend(Timing::in_search().map(|timing| Mistake::Timing(Call::Plan, timing)));
         let orders = [(9, 1), (10, 1), (12, 1), (10, 9), (11, 9), (12, 9), (11, 10), (12, 10), (12, 11)];
         all.extend(orders.map(|(early, late)| Mistake::Before(Call::Plan, early, late)));
         all.extend([(7, 1), (8, 1), (8, 7)].map(|(early, late)| Mistake::Before(Call::Judge, early, late)));
-        let planned_refusals = || (1..=12).filter(|refusal| ![7, 8].contains(refusal));
-        all.extend(planned_refusals().filter(|&refusal| refusal != 12).map(Mistake::TableChanged));
-        all.extend(planned_refusals().map(Mistake::BufferChanged));
-        all.extend((1..=6).map(|refusal| Mistake::ResultsBeside(Call::Check, refusal)));
-        all.extend((1..=8).map(|refusal| Mistake::ResultsBeside(Call::Judge, refusal)));
-        all.extend(planned_refusals().map(|refusal| Mistake::ResultsBeside(Call::Plan, refusal)));
-        for (call, results) in [(Call::Check, 3), (Call::Judge, 2), (Call::Plan, 4)] {
-            all.push(Mistake::NetChanged(call));
-            for place in 0..results {
-                all.extend([true, false].map(|refused| Mistake::Unwritten(call, place, refused)));
-            }
-        }
+        all.extend(Mistake::in_buffers(Call::Plan, &[1, 2, 3, 4, 5, 6, 9, 10, 11, 12]));
+        all.extend(Mistake::in_results(Call::Check, &[1, 2, 3, 4, 5, 6], 3));
+        all.extend(Mistake::in_results(Call::Judge, &[1, 2, 3, 4, 5, 6, 7, 8], 2));
+        all.extend(Mistake::in_results(Call::Plan, &[1, 2, 3, 4, 5, 6, 9, 10, 11, 12], 4));
         for place in 0..IN_PLANS.len() {
             all.extend([Mistake::RareNet(Call::Judge, place), Mistake::RareNet(Call::Plan, place)]);
         }
         all.extend((0..IN_SHARES.len()).map(Mistake::RareShare));
         all.extend((0..=27).map(Mistake::RareGrain));
+        all
+    }
+
+    /// All that are made in planning by rounds alone.
+    pub fn of_rounds() -> Vec<Mistake> {
+        let mut all = vec![];
+        all.extend(Rounds::ALL.iter().map(|&slip| Mistake::Rounds(slip)));
+        all.extend(IN_ANY_PLANNING.iter().chain(MADE_IN_ROUNDS).map(|&other| Mistake::InRounds(other)));
+        all.extend((0..=28).map(Mistake::RoundPassedOver));
+        let orders = [(14, 1), (10, 1), (12, 1), (10, 14), (11, 14), (12, 14), (11, 10), (12, 10), (12, 11)];
+        all.extend(orders.map(|(early, late)| Mistake::Before(Call::Rounds, early, late)));
+        let refusals = [1, 2, 3, 4, 5, 6, 14, 10, 11, 12];
+        all.extend(Mistake::in_buffers(Call::Rounds, &refusals));
+        all.extend(Mistake::in_results(Call::Rounds, &refusals, 4));
+        all.extend(Timing::in_search().map(|timing| Mistake::Timing(Call::Rounds, timing)));
+        all.extend((0..IN_PLANS.len()).map(|place| Mistake::RareNet(Call::Rounds, place)));
+        all.extend((0..IN_ROUNDS.len()).map(Mistake::RareRun));
+        all.extend((0..=28).map(Mistake::RarePlanRound));
+        all.extend((1..=29).map(Mistake::RareRounds));
+        all
+    }
+
+    /// Of rounds, those that break the law between calls: with a larger r no dearer plan and no lower floor.
+    pub fn on_rounds_law() -> Vec<Mistake> {
+        let slips = [
+            Rounds::EarlyIsTwelve,
+            Rounds::LastSeen,
+            Rounds::DearestSeen,
+            Rounds::CheaperOfLastTwo,
+            Rounds::CheaperThanBefore,
+            Rounds::ByRounded,
+            Rounds::ByRoundedAtLast,
+            Rounds::CostOfLast,
+            Rounds::CostRounded,
+            Rounds::Floor16,
+        ];
+        slips.map(Mistake::Rounds).to_vec()
+    }
+
+    /// What a planning call leaves after its refusals: 12 alone clears the table.
+    fn in_buffers(call: Call, refusals: &[u8]) -> impl Iterator<Item = Mistake> + '_ {
+        let tables = refusals.iter().filter(|&&refusal| refusal != 12);
+        let tables = tables.map(move |&refusal| Mistake::TableChanged(call, refusal));
+        tables.chain(refusals.iter().map(move |&refusal| Mistake::BufferChanged(call, refusal)))
+    }
+
+    /// The results of a call, so many, beside its refusals and on acceptance; and the net that it reads.
+    fn in_results(call: Call, refusals: &[u8], results: usize) -> Vec<Mistake> {
+        let mut all = vec![Mistake::NetChanged(call)];
+        all.extend(refusals.iter().map(|&refusal| Mistake::ResultsBeside(call, refusal)));
+        for place in 0..results {
+            all.extend([true, false].map(|refused| Mistake::Unwritten(call, place, refused)));
+        }
         all
     }
 }

@@ -10,6 +10,7 @@ mod pointers;
 mod rare;
 mod reading;
 mod report;
+mod rounds;
 mod search;
 mod stored;
 mod timing;

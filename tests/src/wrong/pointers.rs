@@ -3,26 +3,31 @@
 
 use super::mistakes::{Block, Call, Mistake, Other};
 use super::Wrong;
-use crate::c_calls::{Check, Judge, Plan, Report, TableEntries, Totals};
+use crate::c_calls::{Check, Judge, Plan, PlanRounds, Report, TableEntries, Totals};
 use crate::host::Interface;
-use crate::plain::Planned;
+use crate::plain::{Planned, RoundsPlanned};
 use std::cell::{Cell, RefCell};
 use std::slice::{from_raw_parts, from_raw_parts_mut};
+use std::thread::LocalKey;
 
-/// A planning call: net, p, q, lengths of table and buffer.
-type Remembered = (Vec<u8>, [u64; 4]);
+/// A planning call: net, the numbers that are asked, lengths of table and buffer.
+type Remembered = (Vec<u8>, Vec<u64>);
+
+/// The last planning call of a sort, and its answer.
+type Last<A> = RefCell<Option<(Remembered, A)>>;
 
 thread_local! {
     static WRONG: Cell<Wrong> = const { Cell::new(Wrong { mistake: Mistake::None }) };
-    /// The last planning call and its answer.
-    static LAST: RefCell<Option<(Remembered, Planned)>> = const { RefCell::new(None) };
+    static LAST: Last<Planned> = const { RefCell::new(None) };
+    static LAST_BY_ROUNDS: Last<RoundsPlanned> = const { RefCell::new(None) };
 }
 
 /// The calls of a planner that makes this mistake from now on.
 pub fn interface(mistake: Mistake) -> Interface {
     WRONG.set(Wrong { mistake });
     LAST.take();
-    Interface { check, judge, plan, table_entries, report }
+    LAST_BY_ROUNDS.take();
+    Interface { check, judge, plan, plan_rounds, table_entries, report }
 }
 
 unsafe fn check(Check { net, net_len, nodes, stages, layers }: Check) -> u8 {
@@ -48,28 +53,31 @@ unsafe fn judge(Judge { net, net_len, plan, plan_len, cost, slack }: Judge) -> u
 unsafe fn plan(asked: Plan) -> u8 {
     let Plan { net, net_len, p, q, table, table_len, plan, plan_len, cost, slack, k, floor } = asked;
     let wrong = WRONG.get();
-    let call = (from_raw_parts(net, net_len).to_vec(), [p, q, table_len as u64, plan_len as u64]);
+    let call = (from_raw_parts(net, net_len).to_vec(), vec![p, q, table_len as u64, plan_len as u64]);
     let (lent_table, lent_plan) = (from_raw_parts_mut(table, table_len), from_raw_parts_mut(plan, plan_len));
-    let remembered = LAST.take().filter(|(last, _)| wrong.makes(Other::Remembered) && *last == call);
-    let answer = match remembered {
-        Some((_, answer)) => answer,
-        None => wrong.plan(&call.0, p, q, lent_table, lent_plan),
-    };
-    LAST.replace(Some((call, answer)));
-    let Planned { refusal, .. } = answer;
+    let answer = wrong.answered(&LAST, call, |net| wrong.plan(net, p, q, lent_table, lent_plan));
     let results = [(cost, answer.cost), (slack.cast(), answer.slack as u64), (k, answer.k), (floor, answer.floor)];
-    wrong.put(Call::Plan, refusal, &results);
+    wrong.put(Call::Plan, answer.refusal, &results);
     wrong.change_net(Call::Plan, net, net_len);
-    if refusal == 0 {
-        match wrong.other() {
-            Some(Other::EntryBeforeTable) => *table.sub(1) = 0,
-            Some(Other::EntryBeyondTable) => *table.add(table_len) = 0,
-            Some(Other::ByteBeforeBuffer) => *plan.sub(1) = 0,
-            Some(Other::ByteBeyondBuffer) => *plan.add(plan_len) = 0,
-            _ => {}
-        }
+    if answer.refusal == 0 {
+        wrong.write_beside((table, table_len), (plan, plan_len));
     }
-    refusal
+    answer.refusal
+}
+
+unsafe fn plan_rounds(asked: PlanRounds) -> u8 {
+    let PlanRounds { net, net_len, r, table, table_len, plan, plan_len, cost, slack, floor, rounds } = asked;
+    let wrong = WRONG.get().in_rounds();
+    let call = (from_raw_parts(net, net_len).to_vec(), vec![r, table_len as u64, plan_len as u64]);
+    let (lent_table, lent_plan) = (from_raw_parts_mut(table, table_len), from_raw_parts_mut(plan, plan_len));
+    let answer = wrong.answered(&LAST_BY_ROUNDS, call, |net| wrong.plan_rounds(net, r, lent_table, lent_plan));
+    let costs = [(cost, answer.cost), (slack.cast(), answer.slack as u64)];
+    wrong.put(Call::Rounds, answer.refusal, &[costs, [(floor, answer.floor), (rounds, answer.rounds)]].concat());
+    wrong.change_net(Call::Rounds, net, net_len);
+    if answer.refusal == 0 {
+        wrong.write_beside((table, table_len), (plan, plan_len));
+    }
+    answer.refusal
 }
 
 unsafe fn table_entries(TableEntries { s, q }: TableEntries) -> u64 {
@@ -86,6 +94,30 @@ unsafe fn report(Report { block, block_len }: Report) -> Totals {
 }
 
 impl Wrong {
+    /// The answer to a planning call: by mistake that of the last one again, if it was the same.
+    fn answered<A: Copy>(
+        &self,
+        last: &'static LocalKey<Last<A>>,
+        call: Remembered,
+        answer: impl FnOnce(&[u8]) -> A,
+    ) -> A {
+        let remembered = last.take().filter(|(last, _)| self.makes(Other::Remembered) && *last == call);
+        let answer = remembered.map_or_else(|| answer(&call.0), |(_, answer)| answer);
+        last.replace(Some((call, answer)));
+        answer
+    }
+
+    /// Writes beside table or plan buffer.
+    unsafe fn write_beside(&self, (table, table_len): (*mut i64, usize), (plan, plan_len): (*mut u8, usize)) {
+        match self.other() {
+            Some(Other::EntryBeforeTable) => *table.sub(1) = 0,
+            Some(Other::EntryBeyondTable) => *table.add(table_len) = 0,
+            Some(Other::ByteBeforeBuffer) => *plan.sub(1) = 0,
+            Some(Other::ByteBeyondBuffer) => *plan.add(plan_len) = 0,
+            _ => {}
+        }
+    }
+
     /// Writes results.
     unsafe fn put(&self, call: Call, refusal: u8, results: &[(*mut u64, u64)]) {
         for (place, &(to, value)) in results.iter().enumerate() {

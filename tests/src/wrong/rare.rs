@@ -14,6 +14,22 @@ pub struct Facts<'a> {
     pub slack: i64,
 }
 
+/// What planning by rounds was asked, and what was run.
+pub struct Run {
+    pub r: u64,
+    pub table_len: usize,
+    pub buffer_len: usize,
+    pub stages: usize,
+    pub rounds: u64,
+    /// V(k) of the last k.
+    pub least: usize,
+    /// The k at which the plan was found.
+    pub k: u32,
+    /// Does the last round give another plan? Does one that costs as much?
+    pub last_differs: bool,
+    pub has_equal: bool,
+}
+
 /// What planning was asked, and k.
 pub struct Terms {
     pub p: u64,
@@ -128,6 +144,20 @@ pub const IN_SHARES: &[(&str, fn(&Terms) -> bool)] = &[
     ("with a buffer of 256 bytes or more", |terms| terms.buffer_len > 0xFF),
 ];
 
+pub const IN_ROUNDS: &[(&str, fn(&Run) -> bool)] = &[
+    ("where all 29 are run", |run| run.rounds == 29),
+    ("where r = 29 and rounds end early", |run| run.r == 29 && run.rounds < 29),
+    ("where rounds end early after two or more", |run| run.rounds < run.r && run.rounds > 1),
+    ("where one column is needed", |run| run.least == 0),
+    ("with an exact table", |run| run.table_len == (run.least + 1) * (run.stages + 2)),
+    ("with one column", |run| run.table_len / (run.stages + 2) == 1),
+    ("with a table of 65,536 entries or more", |run| run.table_len > 0xFFFF),
+    ("with 10,000 columns needed", |run| run.least > 10_000),
+    ("with a buffer of 256 bytes or more", |run| run.buffer_len > 0xFF),
+    ("where the last round gives another plan", |run| run.last_differs),
+    ("where another plan costs as much", |run| run.has_equal),
+];
+
 impl Wrong {
     /// A judged plan's slack.
     pub fn slack_judged(&self, facts: &Facts) -> i64 {
@@ -140,6 +170,17 @@ impl Wrong {
             Mistake::RareShare(place) => IN_SHARES[place].1(terms),
             Mistake::RareGrain(k) => terms.k == k,
             _ => self.rare_net(Call::Plan, facts),
+        };
+        facts.slack + rare as i64
+    }
+
+    /// The slack of a plan found by rounds.
+    pub fn slack_by_rounds(&self, facts: &Facts, run: &Run) -> i64 {
+        let rare = match self.mistake {
+            Mistake::RareRun(place) => IN_ROUNDS[place].1(run),
+            Mistake::RarePlanRound(k) => run.k == k,
+            Mistake::RareRounds(rounds) => run.rounds == rounds,
+            _ => self.rare_net(Call::Rounds, facts),
         };
         facts.slack + rare as i64
     }

@@ -12,53 +12,67 @@ const FREE: i64 = i64::MAX / 2;
 
 type Rows = Vec<Vec<i64>>;
 
-/// What the search answers.
-pub enum Found {
-    Short,
-    Plan { plan: Vec<usize>, k: u32, least: usize },
+/// One k worked out: its rows, and V(k).
+pub struct Round {
+    pub k: u32,
+    rows: Rows,
+    pub least: usize,
 }
 
-/// What a planning call lends and asks.
-pub struct Asked<'a> {
-    pub p: u64,
-    pub q: u64,
+/// A plan that was found.
+pub struct Found {
+    pub plan: Vec<usize>,
+    pub k: u32,
+    pub least: usize,
+}
+
+/// What a planning call lends.
+#[derive(Clone, Copy)]
+pub struct Lent<'a> {
     pub table: &'a [i64],
     pub buffer: &'a [u8],
 }
 
 impl Wrong {
-    /// From k = 28 down to the first that qualifies.
-    pub fn search(&self, timed: &Timed, asked: &Asked) -> Found {
+    /// From k = 28 down to the first that qualifies. None if the table is too short.
+    pub fn search(&self, timed: &Timed, share: (u64, u64), lent: Lent) -> Option<Found> {
         let s = timed.stages.len();
-        let columns = self.columns(asked.table.len(), s);
-        let mut bound = 0;
-        for k in (0..=28).rev() {
-            let (mut rows, mut value) = self.round(timed, k, columns.min(bound + 1), asked.table);
-            let Some(least) = value else { return Found::Short };
-            if self.qualifies(s, asked, k, least) {
-                let given = match self.other() {
-                    Some(Other::KTooSmall) => k.saturating_sub(1),
-                    Some(Other::KTooLarge) => k + 1,
-                    _ => k,
-                };
-                if given != k {
-                    (rows, value) = self.round(timed, given, columns, asked.table);
-                }
-                let Some(least) = value else { return Found::Short };
-                return Found::Plan { plan: self.chosen(timed, &rows, given, asked.buffer), k: given, least };
-            }
-            bound = 2 * least + s - self.makes(Other::BoundShort) as usize;
+        let columns = self.columns(lent.table.len(), s);
+        let mut rounds = self.rounds(timed, columns, lent.table);
+        let mut round = rounds.find(|round| self.qualifies(s, share, round.k, round.least))?;
+        let given = match self.other() {
+            Some(Other::KTooSmall) => round.k.saturating_sub(1),
+            Some(Other::KTooLarge) => round.k + 1,
+            _ => round.k,
+        };
+        if given != round.k {
+            round = self.round(timed, given, columns, lent.table)?;
         }
-        Found::Short
+        Some(Found { plan: self.chosen(timed, &round, lent.buffer), k: given, least: round.least })
+    }
+
+    /// At k = 28, 27 and down, as long as V(k) fits the columns.
+    pub fn rounds<'a>(
+        &'a self,
+        timed: &'a Timed,
+        columns: usize,
+        table: &'a [i64],
+    ) -> impl Iterator<Item = Round> + 'a {
+        let mut bound = 0;
+        (0..=28).rev().map_while(move |k| {
+            let round = self.round(timed, k, columns.min(bound + 1), table)?;
+            bound = 2 * round.least + timed.stages.len() - self.makes(Other::BoundShort) as usize;
+            Some(round)
+        })
     }
 
     /// g × V(k) for a k at which V(k) is no more than `most`.
     pub fn floor_at(&self, timed: &Timed, k: u32, most: usize) -> u64 {
-        let (_, least) = self.round(timed, k, most + 1, &[]);
-        (least.expect("a plan that meets timing") as u64) << k
+        let round = self.round(timed, k, most + 1, &[]).expect("a plan that meets timing");
+        (round.least as u64) << k
     }
 
-    fn columns(&self, length: usize, s: usize) -> usize {
+    pub fn columns(&self, length: usize, s: usize) -> usize {
         let length = if self.makes(Other::Table16) { low_bits(length, 16) } else { length };
         let columns = length / (s + 2);
         match self.other() {
@@ -71,8 +85,7 @@ impl Wrong {
         }
     }
 
-    fn qualifies(&self, s: usize, asked: &Asked, k: u32, least: usize) -> bool {
-        let (mut p, mut q) = (asked.p, asked.q);
+    fn qualifies(&self, s: usize, (mut p, mut q): (u64, u64), k: u32, least: usize) -> bool {
         if self.makes(Other::ShareInThousandths) {
             (p, q) = (1_000 * p / q, 1_000);
         }
@@ -99,11 +112,11 @@ impl Wrong {
         timed.arrival + self.makes(Other::ZeroSlackMisses) as i64 - self.makes(Other::MinusOneMeets) as i64
     }
 
-    /// The rows of one k, and V(k) if it fits the width.
-    fn round(&self, timed: &Timed, k: u32, width: usize, table: &[i64]) -> (Rows, Option<usize>) {
+    /// One k, if V(k) fits the width.
+    pub fn round(&self, timed: &Timed, k: u32, width: usize, table: &[i64]) -> Option<Round> {
         let rows = self.rows(timed, k, width, table);
-        let least = least_for(&rows[0], self.target(timed));
-        (rows, least)
+        let least = least_for(&rows[0], self.target(timed))?;
+        Some(Round { k, rows, least })
     }
 
     fn rows(&self, timed: &Timed, k: u32, width: usize, table: &[i64]) -> Rows {
@@ -172,8 +185,8 @@ impl Wrong {
     }
 
     /// The plan that is given.
-    fn chosen(&self, timed: &Timed, rows: &Rows, k: u32, buffer: &[u8]) -> Vec<usize> {
-        let mut plan = self.read_off(timed, rows, k, buffer);
+    pub fn chosen(&self, timed: &Timed, round: &Round, buffer: &[u8]) -> Vec<usize> {
+        let mut plan = self.read_off(timed, &round.rows, round.k, buffer);
         match self.other() {
             Some(Other::FastestPlan) => plan = self.fastest(timed),
             Some(Other::StageZeroOnly) => plan[1..].fill(0),

@@ -2,34 +2,19 @@
 //! without a fault on whole nets, none with an edge longer than 1,000. So mistakes that keep those answers, as a bound on
 //! lengths or on vias that is wrong, cannot show.
 
-use super::mistakes::{Call, Edition, Length, Mistake, Other, Timing};
+use super::mistakes::{Call, Edition, Length, Mistake, Other, Timing, IN_ANY_PLANNING};
 use super::rare::IN_PLANS;
 
-/// Counts, refusals 11 and 12, the search, results and buffers.
+/// Counts, refusal 12, k and the floor; see also `IN_ANY_PLANNING`.
 const OTHERS: &[Other] = &[
     Other::DriverNotCounted,
     Other::BuffersForStages,
-    Other::AlwaysEleven,
     Other::AlwaysTwelve,
-    Other::ZeroSlackMisses,
-    Other::MinusOneMeets,
     Other::TwelveEarly,
     Other::TwelveLate,
-    Other::BudgetsFromOne,
-    Other::SmallerTime,
-    Other::BranchesShare,
-    Other::BranchesInStep,
-    Other::StaleTable,
-    Other::BoundShort,
-    Other::LastPlan,
-    Other::CheaperTie,
     Other::KTooSmall,
     Other::KTooLarge,
     Other::StrictGrain,
-    Other::RoundedByEdge,
-    Other::RoundedUp,
-    Other::FastestPlan,
-    Other::FixedPlan,
     Other::CostMadeUp,
     Other::KMadeUp,
     Other::FloorZero,
@@ -41,10 +26,6 @@ const OTHERS: &[Other] = &[
     Other::FloorOfKBefore,
     Other::FloorAsWhole,
     Other::FloorAtShareZero,
-    Other::TableNotCleared,
-    Other::TableKeptAfterTwelve,
-    Other::BufferUntouched,
-    Other::LaterBytesCleared,
 ];
 
 /// Numbers that are not so large while edges are no longer than 1,000, nor these where timing is met.
@@ -77,6 +58,11 @@ const REFUSED: &[Other] = &[
 /// What can be seen of editions where every net is of tag 1.
 const OF_TAG_1: &[Edition] = &[Edition::FirstRefused, Edition::FirstAsSecond, Edition::FirstOf6, Edition::ByLength];
 
+/// Shown by calls without a fault.
+fn without_fault(other: Other) -> bool {
+    IN_ANY_PLANNING.contains(&other) || OTHERS.contains(&other)
+}
+
 /// Vias for nets of tag 1.
 fn gives_vias(slip: Edition) -> bool {
     slip.is_of_first() || slip == Edition::FirstAsSecond || slip == Edition::ByLength
@@ -91,7 +77,7 @@ impl Mistake {
     /// Those that the answers of before edges were longer must expose.
     pub fn on_lengths_to_1000() -> Vec<Mistake> {
         let shows = |mistake: &Mistake| match *mistake {
-            Mistake::Other(other) => OTHERS.contains(&other),
+            Mistake::Other(other) => without_fault(other),
             Mistake::Length(slip) => slip == Length::ThousandRefused,
             Mistake::Edition(slip) => gives_vias(slip),
             Mistake::Timing(call, timing) => {
@@ -107,14 +93,15 @@ impl Mistake {
     /// Those that the answers of before vias counted must expose.
     pub fn on_without_vias() -> Vec<Mistake> {
         let shows = |mistake: &Mistake| match *mistake {
-            Mistake::Other(other) => OTHERS.contains(&other) || REFUSED.contains(&other),
+            Mistake::Other(other) => without_fault(other) || REFUSED.contains(&other),
             Mistake::Length(_) => true,
             Mistake::Edition(slip) => gives_vias(slip) || OF_TAG_1.contains(&slip),
             Mistake::Timing(_, timing) => !timing.is_of_vias(),
             Mistake::RareNet(_, place) => of_tag_1(place),
-            Mistake::Before(..) | Mistake::ResultsBeside(..) | Mistake::TableChanged(_) | Mistake::BufferChanged(_) => {
-                true
-            }
+            Mistake::Before(..)
+            | Mistake::ResultsBeside(..)
+            | Mistake::TableChanged(..)
+            | Mistake::BufferChanged(..) => true,
             _ => false,
         };
         Mistake::all().into_iter().filter(shows).collect()

@@ -90,7 +90,7 @@ returns-3 c =
     let G = start s .pre .0 in
     let I = rw (c .before .before .before .before .outcome .given .1) at (s .plan-stages .ensures) in
     let e = c .before .judged-by .ensures in
-    λ bs h. found-judged bs _ _ _ _ G h I (ap (λ (j : Judged). j .cost) e) (slack-told _ _ G I e)
+    λ bs h. found-judged bs _ _ _ _ G h I (ap (λ (j : Judged). j .cost) e) (slack-told (held-accepted (G .held)) _ e)
 
 pub plan-by-spec : {M : Type 1} → statement M
 plan-by-spec =

@@ -5,6 +5,7 @@ use mir.Facts.{toZ-ofZ}
 use mir.Syntax.{w64}
 use mir.Val.{toZ, ofZ}
 use Rattle.rounds.specs.Problem.{numbers-same, problem-same}
+use Rattle.rounds.specs.Contracts.{feasible-meets}
 use borrow.Author.Tests.{not-true, not-false}
 use Rattle.rounds.proofs.Preparing.{prepare-in}
 use Rattle.search.specs.Planned.{Explored}
@@ -91,7 +92,7 @@ same-length-3 c = search needs
 returns-2 : tie.Need-returns-2
 returns-2 c = λ T P.
     let Q = problem-same (time-is (c .before .before .before .before .before .before .before .before .before .before .before .before .before .before .before .before .before .before .before .before .before .before .before .before .before .before .before .before .before .before .before .before)) P in
-    let M = c .before .before .before .before .before .before .before .before .before .before .before .before .before .feasible .ensures T (Q .numbers) .some (not-false _ (c .before .before .before .before .before .before .before .before .before .before .if1 .left)) in
+    let M = feasible-meets (c .before .before .before .before .before .before .before .before .before .before .before .before .before .feasible .ensures T (Q .numbers)) (not-false _ (c .before .before .before .before .before .before .before .before .before .before .if1 .left)) in
     explored _ _ _ _ _ _ _ _ _ M (c .before .before .before .descend .ensures T Q M) (search needs)
 
 pub search-tree-spec : {M : Type 1} → statement M
