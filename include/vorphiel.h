@@ -3,7 +3,8 @@
  * Every call answers for every input: there is nothing that the caller must see to beforehand, but that each pointer is valid for the length given with it
  * and that lent buffers do not overlap. Of the calls on a net each returns a refusal number, 0 if it accepts; the answer of vorphiel_report holds one. On a
  * refusal every result is 0 and no lent buffer is changed, with one exception: after 12 the table is all zero.
- * Beside what it is lent a call takes stack only: vorphiel_plan 124 kB as measured on x86-64, vorphiel_report 192 kB, for it has a table of 64 kB of its own.
+ * Beside what it is lent a call takes stack only: vorphiel_plan and vorphiel_plan_rounds 106 kB as measured on x86-64, vorphiel_report 174 kB, for it has a
+ * table of 64 kB of its own.
  * docs/CUSTOMERS.md says all this at more length, with worked examples. The numbers are those of the scope document, 13 and 14 those of the change requests:
  *   1  fewer than three bytes are left where a field is due, or the payload is not all there
  *   2  a tag that is not allowed there, or a length that its kind does not have

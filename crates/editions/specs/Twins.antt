@@ -209,7 +209,7 @@ module _ (bs cs : List ℕ) (L : ℕ) (T : Twins bs cs L) where
       after : List ℕ → Field → Answer Net
       after bs f = afterLayers bs f (layersAt bs f) (length (layersAt bs f)) (all (map isLayer (layersAt bs f)))
 
-  -- Both files are checked, judged and planned alike.
+  -- Both files are checked, judged and planned alike, with a share and by rounds.
   pub twins-alike : SameAnswers bs cs
   twins-alike = net-alone bs cs twins-read
 

@@ -19,6 +19,7 @@ use Rattle.rules.specs.Bytes.{layersAt, isLayer, driverAt, isDriver, nodeAt, is
 use Rattle.rules.specs.Reading.{Answer, accept, refuse, _>>=_, _>>_, _unless_, field, hasRoom, isParent, nodeField, nodesFrom, isWhole, readTo, read, check}
 use Rattle.rules.specs.Judging.{judged, judge}
 use Rattle.rules.specs.Planning.{planned, plan}
+use Rattle.rules.specs.Rounds.{plannedRounds, planRounds}
 use Rattle.facts.specs.Answers.{not-refused, accept-injective, then-accepted, unless-accepted}
 use Rattle.facts.specs.Nodes.{afterField, nodesTurn, field-taken, taken-field}
 use Rattle.facts.specs.Accepted.{node-last, node-other}
@@ -151,16 +152,18 @@ pub only-longer : (bs : List ℕ) (n : Net) → read bs ≡ accept n → ((j : �
 unfolding read
 only-longer bs n = read-short formerLength maxLength bs n
 
--- Checking, judging and planning rest on what `read` gives alone: where it is the same they answer the same.
+-- Checking, judging, planning and planning by rounds rest on what `read` gives alone: where it is the same they answer the same.
 pub record SameAnswers (bs cs : List ℕ) : Type 0 where
   pub check-same : check bs ≡ check cs
   pub judge-same : (x : List ℕ) → judge bs x ≡ judge cs x
   pub plan-same : (p q : ℕ) (table : List ℤ) (buffer : List ℕ) → plan bs p q table buffer ≡ plan cs p q table buffer
+  pub rounds-same : (r : ℕ) (table : List ℤ) (buffer : List ℕ) → planRounds bs r table buffer ≡ planRounds cs r table buffer
 
 pub net-alone : (bs cs : List ℕ) → read bs ≡ read cs → SameAnswers bs cs
-unfolding check judge judged plan planned
+unfolding check judge judged plan planned planRounds plannedRounds
 net-alone bs cs e = record {
   check-same = rw (e, check) refl;
   judge-same = λ x. rw (e, judge, judged) refl;
   plan-same = λ p q table buffer. rw (e, plan, planned) refl;
+  rounds-same = λ r table buffer. rw (e, planRounds, plannedRounds) refl;
 }
