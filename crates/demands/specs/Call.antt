@@ -26,7 +26,7 @@ use Rattle.demands.specs.Demand2.{chosen-some, chosen-is}
 use Rattle.demands.specs.Demand3.{near-cheapest}
 use Rattle.demands.specs.Columns.{columns-enough}
 
-taken-numbered : (o : Option (List ℕ)) → Numbered 12 (taken o)
+pub taken-numbered : (o : Option (List ℕ)) → Numbered 12 (taken o)
 taken-numbered none = refuse-numbered 12 11 (omega arith) (omega arith)
 taken-numbered (some x) = accept-numbered 12 x
 

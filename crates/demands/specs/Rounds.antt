@@ -14,26 +14,27 @@ use lib.Seq.{take-at}
 use lib.Pow.{pow-pos, pow-mono, pow-add}
 use lib.IntN.{ℤ}
 use borrow.Author.Tests.{le-leb, leb-false, lt-ltb, ltb-true}
-use Rattle.laws.specs.Basic.{from, sum, leading, within}
+use Rattle.laws.specs.Basic.{from, leading, within}
 use Rattle.laws.specs.Booleans.{within-true}
 use Rattle.laws.specs.Lists.{length-from, map-at, mem-map, map-mem}
 use Rattle.laws.specs.Front.{mem-somes, somes-mem, leading-more, leading-take, leading-ended, highest-more}
 use Rattle.laws.specs.Front.{first-lowest-mem, first-lowest-le, first-lowest-some}
-use Rattle.rules.specs.Tree.{Net, stages, on, isPlan}
-use Rattle.rules.specs.Timing.{meets, cost, stageCost, stageCosts}
-use Rattle.rules.specs.Grain.{maxExponent, roundedCost, meetingPlans, leastRounded, floor, chosen, columns, columnsNeeded}
+use Rattle.rules.specs.Tree.{Net, stages, isPlan}
+use Rattle.rules.specs.Timing.{meets, cost}
+use Rattle.rules.specs.Grain.{maxExponent, meetingPlans, leastRounded, floor, chosen, columns, columnsNeeded}
 use Rattle.rules.specs.Reading.{Answer, accept, refuse, read}
 use Rattle.rules.specs.Planning.{cleared, Plannable}
 use Rattle.rules.specs.Rounds.{maxRounds, dueRounds, lastRun, roundsRun, seenPlans, cheapestSeen, highestFloor, plannedRounds}
 use Rattle.rules.specs.Rounds.{RoundsAnswer, planRounds, roundsAnswer, BestSeen, RoundsPromise}
 use Rattle.facts.specs.Accepted.{Accepted, accepted}
-use Rattle.facts.specs.Costs.{sum-costs}
-use Rattle.oracle.specs.Rounding.{rounded-above}
+use Rattle.oracle.specs.Value.{first-meets, above-floor}
 use Rattle.oracle.specs.Rounds.{mem-due}
+use Rattle.demands.specs.StageNumbers.{treeOf}
+use Rattle.demands.specs.Same.{cost-same, value-same, first-same}
 use Rattle.demands.specs.Plans.{plan-length, some-plan-iff}
 use Rattle.demands.specs.Values.{least-top, grain-below, grain-small}
 use Rattle.demands.specs.Demand2.{chosen-some, chosen-is}
-use Rattle.demands.specs.RoundsCall.{rounds-numbered, rounds-unread, rounds-14, rounds-10, rounds-11, rounds-12, rounds-pass}
+use Rattle.demands.specs.RoundsCall.{rounds-in, rounds-numbered, rounds-unread, rounds-14, rounds-10, rounds-11, rounds-12, rounds-pass}
 use Rattle.demands.specs.RoundsCall.{roundsAnswerFor, rounds-accepted, rounds-refused, due-parts, run-is, highest-last}
 
 pub length-due : (m : ℕ) → length (dueRounds m) ≡ m
@@ -120,16 +121,12 @@ module _ (n : Net) (ks : List ℕ) where
     unfolding cheapestSeen
     best-least m = first-lowest-le (cost n) (seenPlans n ks) e m
 
-count-costs : (n : Net) (x : List ℕ) → length (stageCosts n x) ≡ stages n
-unfolding stageCosts
-count-costs n x = length-map (from 0 (stages n)) (λ t. stageCost n (on x t) t) ∙ length-from 0 (stages n)
-
 -- The plan chosen at k costs at most s × (2^k − 1) more than the floor at k, because rounding takes less than one grain off each stage.
 chosen-near : {n : Net} → Accepted n → (k : ℕ) (z : List ℕ) → chosen n k ≡ some z → cost n z ≤ floor n k + stages n * (2 ^ k - 1)
-unfolding roundedCost floor
+unfolding floor
 chosen-near {n} A k z e =
-    let above : sum (stageCosts n z) ≤ 2 ^ k * roundedCost n k z + length (stageCosts n z) * (2 ^ k - 1) = rounded-above (2 ^ k) (pow-pos k) (stageCosts n z) in
-    rw (sum-costs A z, count-costs n z, chosen-is n k z e .rounded-least) at above
+    let (M, least) = first-meets (treeOf n) k z (first-same A k ∙ e) in
+    rw (← cost-same A z, ← value-same A k) (above-floor (treeOf n) k z least)
 
 -- 2^(r − 1) columns are enough for each k of r rounds, because 2^k × V(k) is below 2^28.
 few-columns : {n : Net} → Accepted n → (r : ℕ) → 1 ≤ r → r ≤ maxRounds → (k : ℕ) → lastRun r ≤ k → leastRounded n k < 2 ^ (r - 1)
@@ -139,10 +136,6 @@ few-columns {n} A r one top k due =
     let parts : 2 ^ maxExponent ≡ 2 ^ lastRun r * 2 ^ (r - 1) = ap (λ (i : ℕ). 2 ^ i) e ∙ pow-add 2 (lastRun r) (r - 1) in
     let less : 2 ^ lastRun r * leastRounded n k < 2 ^ maxExponent = omega (arith, mul-le-mul-right (leastRounded n k) (pow-mono due), grain-small A k) in
     lt-of-mul-lt-mul-left (2 ^ lastRun r) (rw parts at less)
-
--- An r in its range passes the test of refusal 14.
-in-within : {r : ℕ} → 1 ≤ r → r ≤ maxRounds → within 1 maxRounds r ≡ true
-in-within {r} one top = rw (le-leb 1 r one, le-leb r maxRounds top) refl
 
 -- A table with the entries of so many columns lends as many.
 columns-lent : (n : Net) {lent entries : ℕ} → lent * (stages n + 2) ≤ entries → lent ≤ columns n entries
@@ -228,7 +221,7 @@ module _ (bs : List ℕ) (r : ℕ) (table : List ℤ) (buffer : List ℕ) where
     late-answered : 1 ≤ r → r ≤ maxRounds → stages n ≤ length buffer → (Plannable n → ⊥) → planRounds bs r table buffer .refusal ≡ 11
     late-answered one top room none-meets =
         let t11 = go (ltb 0 (length (meetingPlans n))) refl in
-        refusal-is (rounds-11 bs r (length table) (length buffer) h (in-within one top) (le-leb (stages n) (length buffer) room) t11)
+        refusal-is (rounds-11 bs r (length table) (length buffer) h (rounds-in one top) (le-leb (stages n) (length buffer) room) t11)
       where
         go : (b : Bool) → ltb 0 (length (meetingPlans n)) ≡ b → ltb 0 (length (meetingPlans n)) ≡ false
         go true e = absurd (none-meets (some-plan-iff n .0 e))
@@ -293,7 +286,7 @@ module _ (bs : List ℕ) (r : ℕ) (table : List ℤ) (buffer : List ℕ) where
         let have : lent ≤ columns n (length table) = columns-lent n enough in
         let column : 0 < columns n (length table) = omega (arith, have, fit maxExponent (omega arith)) in
         let t12 = lt-ltb 0 (columns n (length table)) column in
-        let S = served (in-within one top) (le-leb (stages n) (length buffer) room) (some-plan-iff n .1 some-plan) t12 in
+        let S = served (rounds-in one top) (le-leb (stages n) (length buffer) room) (some-plan-iff n .1 some-plan) t12 in
         let run = run-is n r (columns n (length table)) r (omega arith) (λ k a b. omega (arith, have, fit k a)) (λ less. absurd (omega arith)) in (
           ap (λ (a : RoundsAnswer). a .refusal) (S .answer-is),
           ap (λ (a : RoundsAnswer). a .rounds) (S .answer-is) ∙ (ap length run ∙ length-due r),
@@ -346,10 +339,10 @@ more-rounds bs r r′ table buffer one longer top = start (read bs) refl
     room = length buffer
 
     t14 : within 1 maxRounds r ≡ true
-    t14 = in-within one (omega arith)
+    t14 = rounds-in one (omega arith)
 
     t14′ : within 1 maxRounds r′ ≡ true
-    t14′ = in-within (omega arith) top
+    t14′ = rounds-in (omega arith) top
 
     alike : {m : ℕ} → plannedRounds bs r entries room ≡ refuse m → plannedRounds bs r′ entries room ≡ refuse m
         → MoreRounds (planRounds bs r table buffer) (planRounds bs r′ table buffer)

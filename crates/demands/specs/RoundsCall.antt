@@ -2,7 +2,7 @@
 -- k's that are run, their cheapest plan and floor in the words of the search.
 use mathlib.Core.Path.{_≡_, refl, ap, _∙_, fun-ext}
 use mathlib.Core.Bool.{Bool, true, false}
-use mathlib.Core.Option.{Option, none, some}
+use mathlib.Core.Option.{Option, some}
 use mathlib.Core.List.{List, [], _∷_, _++_, map, append-nil, List·Memᴰ}
 use Prim.Native.Nat.{ℕ, zero, suc, _+_, _-_, _^_, _≤_, _<_}
 use native.Mathlib.Omega.{arith}
@@ -22,16 +22,17 @@ use Rattle.rules.specs.Planning.{taken, cleared}
 use Rattle.rules.specs.Rounds.{maxRounds, dueRounds, lastRun, roundsRun, seenPlans, cheapestSeen, highestFloor}
 use Rattle.rules.specs.Rounds.{RoundsChoice, plannedRounds, planRounds, roundsAnswer}
 use Rattle.facts.specs.Accepted.{Accepted}
-use Rattle.facts.specs.Refusals.{Numbered, accept-numbered, refuse-numbered, then-numbered, unless-numbered, wider-numbered, read-numbered}
+use Rattle.facts.specs.Refusals.{Numbered, accept-numbered, then-numbered, unless-numbered, wider-numbered, read-numbered}
 use Rattle.oracle.specs.Value.{value-halved}
 use Rattle.oracle.specs.Rounds.{due-mem, mem-due, treeSeen, treeBest}
 use Rattle.demands.specs.StageNumbers.{treeOf}
 use Rattle.demands.specs.Same.{cost-same, value-same, first-same}
 use Rattle.demands.specs.Values.{either}
+use Rattle.demands.specs.Call.{taken-numbered}
 
-seen-numbered : (o : Option (List ℕ)) → Numbered 14 (taken o)
-seen-numbered none = refuse-numbered 14 11 (omega arith) (omega arith)
-seen-numbered (some x) = accept-numbered 14 x
+-- An r in its range passes the test of refusal 14.
+pub rounds-in : {r : ℕ} → 1 ≤ r → r ≤ maxRounds → within 1 maxRounds r ≡ true
+rounds-in {r} one top = rw (le-leb 1 r one, le-leb r maxRounds top) refl
 
 module _ (bs : List ℕ) (r entries room : ℕ) where
   -- Planning by rounds refuses with a number from 1 to 14, never with 0.
@@ -43,8 +44,8 @@ module _ (bs : List ℕ) (r entries room : ℕ) where
       (unless-numbered 10 (leb (stages n) room) _ (omega arith) (omega arith)
       (unless-numbered 11 (ltb 0 (length (meetingPlans n))) _ (omega arith) (omega arith)
       (unless-numbered 12 (ltb 0 (columns n entries)) _ (omega arith) (omega arith)
-      (then-numbered (taken (cheapestSeen n (roundsRun n r (columns n entries)))) _ (seen-numbered (cheapestSeen n (roundsRun n r (columns n entries))))
-      (λ x. accept-numbered 14 _))))))
+      (then-numbered (taken (cheapestSeen n (roundsRun n r (columns n entries)))) _
+      (wider-numbered 14 (omega arith) (taken-numbered (cheapestSeen n (roundsRun n r (columns n entries))))) (λ x. accept-numbered 14 _))))))
 
   -- A net that cannot be read is refused with the number of its first fault.
   pub rounds-unread : {m : ℕ} → read bs ≡ refuse m → plannedRounds bs r entries room ≡ refuse m

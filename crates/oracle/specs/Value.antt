@@ -121,13 +121,15 @@ module _ (T : StageTree) where
   pub floor-below : (k : ℕ) (x : List ℕ) → MeetingPlan x → 2 ^ k * value k ≤ sum (planCosts T x)
   floor-below k x M = omega (arith, mul-le-mul-left (2 ^ k) (value-le k x M), rounded-below (2 ^ k) (planCosts T x))
 
+  -- A plan of rounded cost V(k) costs at most s × (2^k − 1) more, because rounding takes less than one grain off each stage.
+  pub above-floor : (k : ℕ) (x : List ℕ) → planRounded k x ≡ value k → sum (planCosts T x) ≤ 2 ^ k * value k + T .stages * (2 ^ k - 1)
+  above-floor k x e = rw (e, length-costs x) at (rounded-above (2 ^ k) (pow-pos k) (planCosts T x))
+
   -- A plan of rounded cost V(k), at the k of the grain, is near the floor (demand 3).
   pub near-floor : (p q : ℕ) (x : List ℕ) → planRounded (exponent p q) x ≡ value (exponent p q)
       → q * sum (planCosts T x) ≤ (q + p) * (2 ^ exponent p q * value (exponent p q))
   near-floor p q x e =
-      let k = exponent p q in
-      let a : sum (planCosts T x) ≤ 2 ^ k * value k + T .stages * (2 ^ k - 1) = rw (e, length-costs x) at (rounded-above (2 ^ k) (pow-pos k) (planCosts T x)) in
-      omega (arith, mul-le-mul-left q a, exponent-passes p q)
+      omega (arith, mul-le-mul-left q (above-floor (exponent p q) x e), exponent-passes p q)
 
   -- The columns needed, V(k) + 1, never exceed s plus 2qs/p rounded up.
   pub columns-bound : (p q : ℕ) → 0 < p → 0 < T .stages → (x : List ℕ) → MeetingPlan x → sum (planCosts T x) < 2 ^ maxExponent

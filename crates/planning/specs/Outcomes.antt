@@ -35,6 +35,13 @@ pub problem-of : {n : Net} → Accepted n → {driver wire : List ℕ} {limit : 
     → Problem (treeOf n) driver wire limit costs s l a p q
 problem-of A L es el ea hp hq hq′ = record { numbers = numbers-of A L es el ea; share = hp; some-part = hq; parts = hq′ }
 
+-- A plan of the net that was put at the front of a buffer opens it.
+pub plan-opens : (n : Net) (plan : List ℕ) {s : ℕ} {x after : List ℕ} → s ≡ stages n → isPlan n x ≡ true → after ≡ x ++ drop s plan
+    → (after ≡ x ++ drop (length x) plan) × (take (stages n) after ≡ x)
+plan-opens n plan {s} {x} es p e =
+    let len : length x ≡ stages n = plan-length n x p in
+    (e ∙ ap (λ (i : ℕ). x ++ drop i plan) (es ∙ sym len), ap (take (stages n)) e ∙ take-at x (drop s plan) (stages n) len)
+
 module _ {n : Net} (A : Accepted n) where
   -- No plan meets timing: refusal 11.
   pub none-meets : {table after : List ℤ} {plan planAfter : List ℕ} → IsLate (treeOf n) table after plan planAfter
@@ -77,7 +84,6 @@ module _ {n : Net} (A : Accepted n) where
     pub x : List ℕ
     pub chosen-here : chosen n (grainExponent n p q) ≡ some x
     pub is-plan : isPlan n x ≡ true
-    pub sized : length x ≡ stages n
     pub after-is : planAfter ≡ x ++ drop (length x) plan
     pub taken-is : take (stages n) planAfter ≡ x
 
@@ -90,8 +96,7 @@ module _ {n : Net} (A : Accepted n) where
       let o : chosen n (grainExponent n p q) ≡ some (I .chosen) =
       sym (first-same A (grainExponent n p q)) ∙ (ap (firstPlan (treeOf n)) (sym ek) ∙ I .chosen-is) in
       let C = chosen-is n (grainExponent n p q) (I .chosen) o in
-      let len : length (I .chosen) ≡ stages n = plan-length n (I .chosen) (C .is-plan) in
-      let b : planAfter ≡ I .chosen ++ drop (length (I .chosen)) plan = I .plan-is ∙ ap (λ (i : ℕ). I .chosen ++ drop i plan) (es ∙ sym len) in
+      let (after-is, taken-is) = plan-opens n plan es (C .is-plan) (I .plan-is) in
       record {
         some-meets = some-plan-iff n .1 (I .chosen, C .is-plan, C .meets-timing);
         enough =
@@ -102,11 +107,8 @@ module _ {n : Net} (A : Accepted n) where
         x = I .chosen;
         chosen-here = o;
         is-plan = C .is-plan;
-        sized = len;
-        after-is = b;
-        taken-is =
-            ap (λ (i : ℕ). take i planAfter) (sym len) ∙
-            (ap (take (length (I .chosen))) b ∙ take-at (I .chosen) (drop (length (I .chosen)) plan) (length (I .chosen)) refl);
+        after-is = after-is;
+        taken-is = taken-is;
       }
 
   -- The grain times V(k) is the floor at the grain's k, and is small.

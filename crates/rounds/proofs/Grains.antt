@@ -2,9 +2,9 @@
 -- is spent above it, and the plan that 01 chooses is the one read off them.
 use mathlib.Core.Path.{_≡_, refl, sym, _∙_}
 use mathlib.Core.List.{List}
-use Prim.Native.Nat.{ℕ, _+_, _-_, _*_, _^_, _≤_, _<_, min}
+use Prim.Native.Nat.{ℕ, suc, _+_, _-_, _*_, _/_, _^_, _≤_, _<_, min}
 use native.Mathlib.Omega.{arith}
-use native.Mathlib.Nat.{mul-le-mul-left, mul-le-mul-right}
+use native.Mathlib.Nat.{mul-le-mul-left, mul-le-mul-right, pow-suc}
 use lib.ListN.{length}
 use lib.IntN.{ℤ}
 use lib.Pow.{pow-pos}
@@ -20,7 +20,7 @@ use Rattle.oracle.specs.Excess.{excess, excess-formed, excess-less, excess-plan
 use Rattle.fanout.specs.Contracts.{Linked}
 use Rattle.slices.specs.Laid.{LaidDelays}
 use Rattle.readoff.specs.Contracts.{ReadIn, PlanRead}
-use Rattle.rounding.specs.Contracts.{Costs, planIn, Excess}
+use Rattle.rounding.specs.Contracts.{Costs, planIn, PricedPlan, Excess}
 use Rattle.rounds.specs.Problem.{Numbers}
 use Rattle.rounds.specs.Contracts.{RoundIn, Round, Known, PlanAt}
 use Rattle.rounds.proofs.Rounds.{round-value, read-in, round-first}
@@ -40,8 +40,12 @@ excess-delays k L = record {
   arrival-most = L .arrival-most;
 }
 
+-- Half of a grain is the next.
+pub half-grain : {g : ℕ} (k : ℕ) → g ≡ 2 ^ suc k → g / 2 ≡ 2 ^ k
+half-grain k e = let p : 2 ^ suc k ≡ 2 ^ k * 2 = pow-suc 2 k in omega arith
+
 module _ {driver delay : List ℕ} {limit : List ℤ} {cost : List ℕ} {stages layers : ℕ} {arrival : ℤ} where
-  -- What rounding asks of the slice of costs.
+  -- What rounding asks of the slice of costs, ..
   pub costs-of : {T : StageTree} → Numbers T driver delay limit cost stages layers arrival → Costs T cost stages
   costs-of N = record {
     laid = N .laid .costs;
@@ -50,6 +54,11 @@ module _ {driver delay : List ℕ} {limit : List ℤ} {cost : List ℕ} {stages 
     some-layer = N .tree .some-layer;
     few-layers = N .laid .delays .few-layers;
   }
+
+  -- .. and of a plan.
+  pub priced-plan : {T : StageTree} {plan : List ℕ} {g : ℕ} → Numbers T driver delay limit cost stages layers arrival → stages ≤ length plan
+      → MeetingPlan T (planIn stages plan) → 0 < g → PricedPlan cost plan stages g
+  priced-plan {T} N long M h = record { tree = T; costs = costs-of N; long = long; meets = M; some-grain = h }
 
   -- The slices with the costs that are left hold the numbers of the tree with these costs.
   pub excess-numbers : {T : StageTree} {k base : ℕ} {slice : List ℕ} → Numbers T driver delay limit cost stages layers arrival

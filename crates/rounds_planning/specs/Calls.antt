@@ -19,7 +19,7 @@ use Rattle.words.specs.Words.{netIn}
 use Rattle.words.specs.Held.{Held, held-accepted}
 use Rattle.tree.specs.Plans.{Fitting}
 use Rattle.demands.specs.StageNumbers.{treeOf}
-use Rattle.demands.specs.RoundsCall.{rounds-11, rounds-12, rounds-pass, roundsRefused, rounds-accepted, rounds-refused}
+use Rattle.demands.specs.RoundsCall.{rounds-in, rounds-11, rounds-12, rounds-pass, roundsRefused, rounds-accepted, rounds-refused}
 use Rattle.slices.specs.Laid.{Laid}
 use Rattle.rounds.specs.Problem.{Numbers}
 use Rattle.search.specs.Planned.{IsLate}
@@ -77,7 +77,7 @@ module _ (bs : List ℕ) (r : ℕ) (table : List ℤ) (buffer : List ℕ) where
     n = netIn w
 
     in-range : within 1 maxRounds r ≡ true
-    in-range = rw (le-leb 1 r (G .some-round), le-leb r maxRounds (G .most-rounds)) refl
+    in-range = rounds-in (G .some-round) (G .most-rounds)
 
     roomy : leb (stages n) (length buffer) ≡ true
     roomy = le-leb (stages n) (length buffer) (omega (arith, G .room-enough, G .stages-are))

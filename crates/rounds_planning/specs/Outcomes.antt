@@ -8,7 +8,6 @@ use native.Mathlib.Omega.{arith}
 use native.Mathlib.Nat.{div-eq-of-lt}
 use lib.Dec.{ltb}
 use lib.ListN.{length, take, drop}
-use lib.Seq.{take-at}
 use lib.IntN.{ℤ}
 use borrow.Author.Tests.{lt-ltb, le-ltb}
 use Rattle.rules.specs.Tree.{Net, stages, isPlan}
@@ -18,11 +17,11 @@ use Rattle.facts.specs.Accepted.{Accepted}
 use Rattle.oracle.specs.Value.{MeetingPlan, value-mono}
 use Rattle.demands.specs.StageNumbers.{treeOf}
 use Rattle.demands.specs.Same.{value-same}
-use Rattle.demands.specs.Plans.{some-plan-iff, meeting, plan-length}
+use Rattle.demands.specs.Plans.{some-plan-iff, meeting}
 use Rattle.demands.specs.Values.{grain-small}
 use Rattle.demands.specs.RoundsCall.{run-is, highest-last, best-same}
 use Rattle.demands.specs.Rounds.{length-due, best-meets}
-use Rattle.planning.specs.Outcomes.{some-of}
+use Rattle.planning.specs.Outcomes.{plan-opens, some-of}
 use Rattle.rounds_search.specs.Contracts.{RoundsFound}
 use Rattle.rounds_search.specs.Planned.{NoColumn, IsBest}
 
@@ -48,7 +47,6 @@ module _ {n : Net} (A : Accepted n) where
     pub x : List ℕ
     pub cheapest-here : cheapestSeen n (roundsRun n r (columns n entries)) ≡ some x
     pub is-plan : isPlan n x ≡ true
-    pub sized : length x ≡ stages n
     pub floor-is : g * v ≡ highestFloor n (roundsRun n r (columns n entries))
     pub floor-low : g * v < 2 ^ maxExponent
     pub rounds-are : maxRounds - k ≡ length (roundsRun n r (columns n entries))
@@ -97,8 +95,7 @@ module _ {n : Net} (A : Accepted n) where
     unfolding floor
     best-served =
         let (p, m) = best-meets n (dueRounds (maxRounds - k)) best-here in
-        let len : length (I .found) ≡ stages n = plan-length n (I .found) p in
-        let b : planAfter ≡ I .found ++ drop (length (I .found)) plan = I .plan-is ∙ ap (λ (i : ℕ). I .found ++ drop i plan) (es ∙ sym len) in
+        let (after-is, taken-is) = plan-opens n plan es p (I .plan-is) in
         record {
           k-most = R .most;
           some-meets = some-plan-iff n .1 (I .found, p, m);
@@ -106,12 +103,9 @@ module _ {n : Net} (A : Accepted n) where
           x = I .found;
           cheapest-here = ap (cheapestSeen n) run-here ∙ best-here;
           is-plan = p;
-          sized = len;
           floor-is = floor-here ∙ ap (highestFloor n) (sym run-here);
           floor-low = rw (R .grain-is, R .value-is, value-same A k) (grain-small A k);
           rounds-are = sym (ap (λ (ks : List ℕ). length ks) run-here ∙ length-due (maxRounds - k));
-          after-is = b;
-          taken-is =
-              ap (λ (i : ℕ). take i planAfter) (sym len) ∙
-              (ap (take (length (I .found))) b ∙ take-at (I .found) (drop (length (I .found)) plan) (length (I .found)) refl);
+          after-is = after-is;
+          taken-is = taken-is;
         }

@@ -15,11 +15,11 @@ use Rattle.search.specs.declared.Outcome.{Outcome}
 use Rattle.search.specs.declared.Outcome.the-variants.{Late, Short, Found}
 use Rattle.search.specs.Planned.{Left}
 use Rattle.rounds_search.specs.Contracts.{RunIn, Ran}
-use Rattle.rounds_search.specs.Planned.{SearchRoundsIn, RoundsExplored, BestPlanned}
+use Rattle.rounds_search.specs.Planned.{BestIn, RoundsExplored, BestPlanned}
 
 -- Where some plan meets timing and there is a column, the rounds have what they ask.
 pub run-in : {table : List ℤ} {driver delay : List ℕ} {limit : List ℤ} {cost : List ℕ} {stages layers : ℕ} {arrival a : ℤ} {last : ℕ} {best known : List ℕ} {r : Bool}
-    → a ≡ arrival → SearchRoundsIn driver delay limit cost stages layers arrival last best → stages + 2 ≤ length table → length known ≡ maxStages
+    → a ≡ arrival → BestIn driver delay limit cost stages layers arrival last best → stages + 2 ≤ length table → length known ≡ maxStages
     → ((T : StageTree) → Numbers T driver delay limit cost stages layers a → Feasible T stages known r) → r ≡ true
     → RunIn table driver delay limit cost stages layers a last known best
 run-in same I column long F e =

@@ -5,7 +5,7 @@ use mathlib.Core.Option.{some}
 use mathlib.Core.List.{List, _++_}
 use Prim.Native.Nat.{ℕ, suc, _+_, _-_, _*_, _/_, _^_, _≤_, _<_}
 use native.Mathlib.Omega.{arith}
-use native.Mathlib.Nat.{pow-suc, le-div-iff-mul-le}
+use native.Mathlib.Nat.{le-div-iff-mul-le}
 use lib.ListN.{length, drop}
 use lib.Seq.{length-take-le, take-at}
 use lib.IntN.{ℤ}
@@ -20,7 +20,7 @@ use Rattle.oracle.specs.Rounds.{planCost, cost-at-one, treeBest, best-first, be
 use Rattle.rounding.specs.Contracts.{Costs, planIn, PricedPlan}
 use Rattle.rounds.specs.Problem.{Numbers}
 use Rattle.rounds.specs.Contracts.{Known, PlanAtIn, PlanAt}
-use Rattle.rounds.proofs.Grains.{costs-of, bound-small}
+use Rattle.rounds.proofs.Grains.{half-grain, costs-of, priced-plan, bound-small}
 use Rattle.rounds_search.specs.Contracts.{Cheaper, FoundAt, NextIn, RunIn, RoundsFound}
 
 -- A plan copied to the front of a buffer is what the buffer opens with.
@@ -75,13 +75,7 @@ module _ {table : List ℤ} {driver delay : List ℕ} {limit : List ℤ} {cost :
   value-small = bound-small (I .numbers) (found-known (I .last))
 
   pub priced-known : PricedPlan cost known stages half
-  priced-known = record {
-    tree = I .tree;
-    costs = costs-of (I .numbers);
-    long = I .long;
-    meets = found-meets (I .last);
-    some-grain = rw (I .grain-is) (pow-pos (I .k));
-  }
+  priced-known = priced-plan (I .numbers) (I .long) (found-meets (I .last)) (rw (I .grain-is) (pow-pos (I .k)))
 
   -- `bound` is the rounded cost of the known plan.
   module _ {bound : ℕ} (B : (T : StageTree) (k : ℕ) → Costs T cost stages → half ≡ 2 ^ k → MeetingPlan T (planIn stages known)
@@ -131,9 +125,6 @@ module _ {T : StageTree} {driver delay : List ℕ} {limit : List ℤ} {cost : Li
       }
 
 module _ {T : StageTree} {columns stages : ℕ} {known best : List ℕ} {k g v least : ℕ} (R : Run T columns stages known best (suc k) g v least) where
-  half-grain : g / 2 ≡ 2 ^ k
-  half-grain = let e : 2 ^ suc k ≡ 2 ^ k * 2 = pow-suc 2 k in omega (arith, R .grain-is)
-
   last-found : FoundAt T (suc k) stages known v
   last-found = record { value-is = R .value-is; chosen = R .here }
 
@@ -146,7 +137,7 @@ module _ {T : StageTree} {columns stages : ℕ} {known best : List ℕ} {k g v l
       let back : maxExponent - (maxRounds - suc k) ≡ k = omega (arith, R .most) in
       record {
         most = omega (arith, R .most);
-        grain-is = half-grain;
+        grain-is = half-grain k (R .grain-is);
         value-is = omega (arith, P .is);
         fits = low;
         here = chosen;
@@ -167,14 +158,8 @@ pub record Running (start : List ℤ) (driver delay : List ℕ) (limit : List �
       → Run T columns stages known best k g v least
 
 module _ {start : List ℤ} {driver delay : List ℕ} {limit : List ℤ} {cost : List ℕ} {stages layers : ℕ} {arrival : ℤ} {last : ℕ} {first room : List ℕ} where
-  pub priced-first : RunIn start driver delay limit cost stages layers arrival last first room → PricedPlan cost first stages 1
-  priced-first I = record {
-    tree = I .tree;
-    costs = costs-of (I .numbers);
-    long = I .known-long;
-    meets = first-meets (I .tree) maxExponent (planIn stages first) (I .chosen) .0;
-    some-grain = omega arith;
-  }
+  pub priced-first : RunIn start driver delay limit cost stages layers arrival last first room → {g : ℕ} → 0 < g → PricedPlan cost first stages g
+  priced-first I = priced-plan (I .numbers) (I .known-long) (first-meets (I .tree) maxExponent (planIn stages first) (I .chosen) .0)
 
   pub running-start : RunIn start driver delay limit cost stages layers arrival last first room → {columns least : ℕ} (old : List ℕ)
       → columns ≡ length start / (stages + 2) → room ≡ planIn stages first ++ drop stages old
@@ -195,20 +180,25 @@ module _ {start : List ℤ} {driver delay : List ℕ} {limit : List ℤ} {cost :
 
   module _ {columns k g v least : ℕ} {table : List ℤ} {known best : List ℕ}
       (D : Running start driver delay limit cost stages layers arrival last first room columns table known best k g v least) where
-    -- All rounds that are due were run.
-    pub running-end : k ≤ last → (T : StageTree) → Numbers T driver delay limit cost stages layers arrival → firstPlan T maxExponent ≡ some (planIn stages first)
-        → RoundsFound T last (length start / (stages + 2)) (planIn stages best) k g v
-    running-end h T N c =
+    -- Where k is the last: the next needs more columns than there are, or is not due.
+    ended-here : (T : StageTree) → Numbers T driver delay limit cost stages layers arrival → firstPlan T maxExponent ≡ some (planIn stages first)
+        → (last < k → columns ≤ value T (k - 1)) → RoundsFound T last (length start / (stages + 2)) (planIn stages best) k g v
+    ended-here T N c e =
         let R = D .run T N c in
         record {
           most = R .most;
           due = D .due;
-          ended = λ a. absurd (omega arith);
+          ended = λ a. omega (arith, e a, D .columns-are);
           grain-is = R .grain-is;
           value-is = R .value-is;
           fits = omega (arith, R .fits, D .columns-are);
           best-is = R .best-is;
         }
+
+    -- All rounds that are due were run.
+    pub running-end : k ≤ last → (T : StageTree) → Numbers T driver delay limit cost stages layers arrival → firstPlan T maxExponent ≡ some (planIn stages first)
+        → RoundsFound T last (length start / (stages + 2)) (planIn stages best) k g v
+    running-end h T N c = ended-here T N c (λ a. absurd (omega arith))
 
     module _ (h : 0 < k) where
       here : (T : StageTree) → Numbers T driver delay limit cost stages layers arrival → firstPlan T maxExponent ≡ some (planIn stages first)
@@ -217,7 +207,7 @@ module _ {start : List ℤ} {driver delay : List ℕ} {limit : List ℤ} {cost :
 
       halved : (T : StageTree) → Numbers T driver delay limit cost stages layers arrival → firstPlan T maxExponent ≡ some (planIn stages first)
           → g / 2 ≡ 2 ^ (k - 1)
-      halved T N c = half-grain (here T N c)
+      halved T N c = half-grain (k - 1) (here T N c .grain-is)
 
       pub next-round-in : RunIn start driver delay limit cost stages layers arrival last first room
           → NextIn table driver delay limit cost stages layers arrival (g / 2) columns v known
@@ -243,17 +233,7 @@ module _ {start : List ℤ} {driver delay : List ℕ} {limit : List ℤ} {cost :
         -- The next k needs more columns than there are.
         pub running-short : u ≡ columns → (T : StageTree) → Numbers T driver delay limit cost stages layers arrival
             → firstPlan T maxExponent ≡ some (planIn stages first) → RoundsFound T last (length start / (stages + 2)) (planIn stages best) k g v
-        running-short e T N c =
-            let R = D .run T N c in
-            record {
-              most = R .most;
-              due = D .due;
-              ended = λ a. omega (arith, found-at T N c .is, D .columns-are);
-              grain-is = R .grain-is;
-              value-is = R .value-is;
-              fits = omega (arith, R .fits, D .columns-are);
-              best-is = R .best-is;
-            }
+        running-short e T N c = ended-here T N c (λ a. omega (arith, found-at T N c .is))
 
         module _ (n : u ≡ columns → ⊥) where
           next-meets : (T : StageTree) (N : Numbers T driver delay limit cost stages layers arrival) (c : firstPlan T maxExponent ≡ some (planIn stages first))
@@ -265,13 +245,7 @@ module _ {start : List ℤ} {driver delay : List ℕ} {limit : List ℤ} {cost :
           pub priced-next : RunIn start driver delay limit cost stages layers arrival last first room → length next ≡ length first
               → PricedPlan cost next stages 1 × (stages ≤ length best)
           priced-next I l = (
-            record {
-              tree = I .tree;
-              costs = costs-of (I .numbers);
-              long = omega (arith, I .known-long);
-              meets = next-meets (I .tree) (I .numbers) (I .chosen);
-              some-grain = omega arith;
-            },
+            priced-plan (I .numbers) (omega (arith, I .known-long)) (next-meets (I .tree) (I .numbers) (I .chosen)) (omega arith),
             omega (arith, D .best-long, I .best-long),
           )
 

@@ -14,19 +14,12 @@ use Rattle.search.specs.declared.Outcome.{Outcome}
 use Rattle.search.specs.declared.Outcome.the-variants.{Late, Short, Found}
 use Rattle.rounds_search.specs.Contracts.{RoundsFound}
 
--- search_rounds: the slices hold some tree, and there is room for a plan of it.
-pub record SearchRoundsIn (driver delay : List ℕ) (limit : List ℤ) (cost : List ℕ) (stages layers : ℕ) (arrival : ℤ) (last : ℕ) (best : List ℕ) : Type 0 where
-  pub tree : StageTree
-  pub numbers : Numbers tree driver delay limit cost stages layers arrival
-  pub last-most : last ≤ maxExponent
-  pub long : stages ≤ length best
-
--- best_of_rounds: the slices hold some tree, and the plan buffer has room for its plan.
+-- search_rounds, best_of_rounds: the slices hold some tree, and there is room for a plan of it.
 pub record BestIn (driver delay : List ℕ) (limit : List ℤ) (cost : List ℕ) (stages layers : ℕ) (arrival : ℤ) (last : ℕ) (plan : List ℕ) : Type 0 where
   pub tree : StageTree
   pub numbers : Numbers tree driver delay limit cost stages layers arrival
   pub last-most : last ≤ maxExponent
-  pub plan-long : stages ≤ length plan
+  pub long : stages ≤ length plan
 
 -- What the rounds find, and that they leave the table as it was where no plan meets timing.
 unfoldable pub RoundsExplored : StageTree → (last stages : ℕ) → (table tableAfter : List ℤ) (best : List ℕ) → Outcome → Type 0

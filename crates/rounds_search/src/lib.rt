@@ -22,7 +22,7 @@ ghost use Rattle.rounding.specs.Contracts.{Costs, planIn, PricedPlan};
 ghost use Rattle.rounds.specs.Problem.{Numbers};
 ghost use Rattle.rounds.specs.Contracts.{Prepared, PlanAt};
 ghost use Rattle.rounds_search.specs.Contracts.{Cheaper, FoundAt, NextIn, RunIn, Ran};
-ghost use Rattle.rounds_search.specs.Planned.{SearchRoundsIn, BestIn, RoundsExplored, BestPlanned};
+ghost use Rattle.rounds_search.specs.Planned.{BestIn, RoundsExplored, BestPlanned};
 
 // Of the best plan so far, of cost `least`, and the one known now the cheaper, into `best`; among equals the best so far. Gives its cost. A plan's true cost is
 // its rounded cost at grain 1.
@@ -169,7 +169,7 @@ fn search_rounds(
     last: usize,
     best: &mut [u8],
 ) -> Outcome
-    requires { ⌜ SearchRoundsIn (now driver) (now delay) (now limit) (now cost) stages layers arrival last (now best) ⌝ }
+    requires { ⌜ BestIn (now driver) (now delay) (now limit) (now cost) stages layers arrival last (now best) ⌝ }
     ensures { λ r. ⌜ ((T : StageTree) → Numbers T (now (driver .entry)) (now (delay .entry)) (now (limit .entry)) (now (cost .entry)) stages layers arrival
         → RoundsExplored T last stages (now (table .entry)) (now (table .exit)) (now (best .exit)) r) ⌝ }
 {

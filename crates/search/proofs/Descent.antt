@@ -6,7 +6,7 @@ use mathlib.Core.List.{List}
 use mathlib.Core.Logic.{_⊎_, inl, inr}
 use Prim.Native.Nat.{ℕ, suc, _+_, _-_, _*_, _/_, _^_, _≤_, _<_}
 use native.Mathlib.Omega.{arith}
-use native.Mathlib.Nat.{mul-le-mul-left, mul-le-mul-right, pow-le-pow-right, pow-suc}
+use native.Mathlib.Nat.{mul-le-mul-left, mul-le-mul-right, pow-le-pow-right}
 use lib.Dec.{leb, lit<}
 use lib.ListN.{length}
 use lib.IntN.{ℤ}
@@ -22,7 +22,7 @@ use Rattle.rounding.specs.Contracts.{Costs, planIn, PricedPlan}
 use Rattle.rounds.specs.Problem.{Numbers, Problem}
 use Rattle.rounds.specs.Contracts.{Known, PlanAtIn, PlanAt}
 use Rattle.search.specs.Contracts.{TestIn, DescendIn, GrainFound}
-use Rattle.rounds.proofs.Grains.{costs-of}
+use Rattle.rounds.proofs.Grains.{half-grain, costs-of, priced-plan}
 
 -- For one tree: the grain is 2^k, and nothing from k up has qualified.
 pub record Above (T : StageTree) (p q k g : ℕ) : Type 0 where
@@ -48,7 +48,7 @@ module _ {T : StageTree} {driver delay : List ℕ} {limit : List ℤ} {cost : Li
 
   module _ {k g : ℕ} (A : Above T p q (suc k) g) where
     pub grain-halved : g / 2 ≡ 2 ^ k
-    grain-halved = let e : 2 ^ suc k ≡ 2 ^ k * 2 = pow-suc 2 k in omega (arith, A .grain-is)
+    grain-halved = half-grain k (A .grain-is)
 
     pub test-in : {v : ℕ} → v ≤ planRounded T k x → TestIn p q stages (g / 2) v
     test-in h = record {
@@ -132,13 +132,8 @@ module _ {start : List ℤ} {driver delay : List ℕ} {limit : List ℤ} {cost :
 
       pub rounding-in : DescendIn driver delay limit cost stages layers arrival p q first → PricedPlan cost known stages (g / 2)
       rounding-in I =
-          record {
-            tree = I .tree;
-            costs = costs-of (I .problem .numbers);
-            long = omega (arith, D .known-long, I .long);
-            meets = D .meets (I .tree) (I .problem) (I .meets);
-            some-grain = rw (halved (I .tree) (I .problem) (I .meets)) (pow-pos (k - 1));
-          }
+          priced-plan (I .problem .numbers) (omega (arith, D .known-long, I .long)) (D .meets (I .tree) (I .problem) (I .meets))
+          (rw (halved (I .tree) (I .problem) (I .meets)) (pow-pos (k - 1)))
 
       -- `bound` is the rounded cost of the known plan.
       module _ {bound : ℕ} (B : (T : StageTree) (k : ℕ) → Costs T cost stages → g / 2 ≡ 2 ^ k → MeetingPlan T (planIn stages known)

@@ -65,7 +65,7 @@ best-of-rounds-requires c κs =
       tree = _;
       numbers = numbers-in G (a .before .before .before .before .before .numbers .ensures) (arrival-is a);
       last-most = omega (arith, G .some-round, G .most-rounds);
-      plan-long = G .room-enough;
+      long = G .room-enough;
     }
 
 same-length : tie.Need-same-length

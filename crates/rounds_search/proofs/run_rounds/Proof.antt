@@ -55,9 +55,7 @@ copy-plan-requires : tie.Need-copy-plan-requires Inv-loop μ-loop
 copy-plan-requires c κs = let I = c .before .before .before .before .before .before .before .before .before .pre .0 in (I .known-long, I .best-long)
 
 rounded-cost-requires : tie.Need-rounded-cost-requires Inv-loop μ-loop
-rounded-cost-requires c κs =
-    let P = priced-first (c .before .before .before .before .before .before .before .before .before .before .before .before .before .pre .0) in
-    record { tree = P .tree; costs = P .costs; long = P .long; meets = P .meets; some-grain = omega arith }
+rounded-cost-requires c κs = priced-first (c .before .before .before .before .before .before .before .before .before .before .before .before .before .pre .0) (omega arith)
 
 loop-holds : tie.Need-loop-holds Inv-loop μ-loop
 loop-holds c = running-start (asked c) _ refl (c .before .before .before .before .copy-plan .ensures) (c .rounded-cost .ensures)
