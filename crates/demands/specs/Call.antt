@@ -159,6 +159,16 @@ module _ (bs : List ℕ) (p q : ℕ) (table : List ℤ) (buffer : List ℕ) wher
       go (accept c) e = (c, e)
       go (refuse s) e = absurd (omega (arith, z, refusal-is e, planned-numbered bs p q (length table) (length buffer) .some s e))
 
+  -- With the share in its range, room for the plan and columns enough, a net is planned if any plan of it meets timing.
+  pub plan-served : {n : Net} → read bs ≡ accept n → p ≤ maxShare → 1 ≤ q → q ≤ maxShare → stages n ≤ length buffer
+      → leb (columnsNeeded n (grainExponent n p q)) (columns n (length table)) ≡ true → Plannable n → plan bs p q table buffer .refusal ≡ 0
+  plan-served {n} h p-in q-some q-in room t12 some-plan =
+      let t11 = some-plan-iff n .1 some-plan in
+      let (x, o) = chosen-some n (grainExponent n p q) t11 in
+      let t9 = share-in p q p-in q-some q-in in
+      let a = all-pass bs p q (length table) (length buffer) h t9 (le-leb (stages n) (length buffer) room) t11 t12 o in
+      ap (λ (a : PlanAnswer). a .refusal) (plan-accepted a)
+
   -- Demand 3 for every answer that equals the definition.
   module _ (r : Planned) {after : List ℕ} {cleaned : List ℤ} (same : planAnswer r after cleaned ≡ plan bs p q table buffer) where
     number : r .refusal ≡ plan bs p q table buffer .refusal
@@ -194,7 +204,7 @@ module _ (bs : List ℕ) (p q : ℕ) (table : List ℤ) (buffer : List ℕ) wher
     demand-3 = record {
       near = λ n h z. nearness n h (accepted-choice z);
       never-short = λ n h one e z. not-short bs p q (length table) (length buffer) h (enough h one e) (number-refused z (omega arith));
-      planned = λ n h one p-in q-some q-in room e some-plan. served n h one p-in q-some q-in room e (some-plan-iff n .1 some-plan);
+      planned = λ n h one p-in q-some q-in room e some-plan. number ∙ plan-served h p-in q-some q-in room (enough h one e) some-plan;
     }
       where
         nearness : (n : Net) → read bs ≡ accept n → (c : Choice) × (planned bs p q (length table) (length buffer) ≡ accept c)
@@ -207,14 +217,6 @@ module _ (bs : List ℕ) (p q : ℕ) (table : List ℤ) (buffer : List ℕ) wher
             let w : c .net ≡ n = accept-injective (sym (S .holds) ∙ h) in
             let k : cost (c .net) (c .plan) ≡ cost n (c .plan) = ap (λ (m : Net). cost m (c .plan)) w in
             rw t (C .is-plan, C .meets-timing, sym k ∙ sym (ap (λ (a : PlanAnswer). a .cost) (same ∙ plan-accepted e)), near-cheapest (accepted bs n h) p q (c .plan) o)
-
-        served : (n : Net) → read bs ≡ accept n → 1 ≤ p → p ≤ maxShare → 1 ≤ q → q ≤ maxShare → stages n ≤ length buffer → enoughColumns p q (stages n) * (stages n + 2) ≤ length table
-            → ltb 0 (length (meetingPlans n)) ≡ true → r .refusal ≡ 0
-        served n h one p-in q-some q-in room e t11 =
-            let (x, o) = chosen-some n (grainExponent n p q) t11 in
-            let t9 = share-in p q p-in q-some q-in in
-            let a = all-pass bs p q (length table) (length buffer) h t9 (le-leb (stages n) (length buffer) room) t11 (enough h one e) o in
-            number ∙ ap (λ (a : PlanAnswer). a .refusal) (plan-accepted a)
 
     -- Demand 2 for every answer that equals the definition.
     pub demand-2 : Demand2 bs p q table buffer after r

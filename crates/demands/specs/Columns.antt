@@ -17,6 +17,11 @@ use Rattle.demands.specs.StageNumbers.{treeOf}
 use Rattle.demands.specs.Same.{value-same, exponent-same}
 use Rattle.demands.specs.Values.{either, small-costs}
 
+-- A table with the entries of so many columns lends as many.
+pub columns-lent : (n : Net) {lent entries : ℕ} → lent * (stages n + 2) ≤ entries → lent ≤ columns n entries
+unfolding columns
+columns-lent n room = le-div-iff-mul-le {k = stages n + 2} (omega arith) .1 room
+
 module _ {n : Net} (A : Accepted n) (p q : ℕ) where
   -- Refusal 12: the columns needed never exceed s plus 2qs/p rounded up, ..
   pub columns-most : 1 ≤ p → columnsNeeded n (grainExponent n p q) ≤ stages n + dividedUp (2 * q * stages n) p
@@ -28,8 +33,7 @@ module _ {n : Net} (A : Accepted n) (p q : ℕ) where
   -- .. so a table with that many columns is never refused.
   pub columns-enough : 1 ≤ p → (entries : ℕ) → (stages n + dividedUp (2 * q * stages n) p) * (stages n + 2) ≤ entries
       → leb (columnsNeeded n (grainExponent n p q)) (columns n entries) ≡ true
-  unfolding columns
   columns-enough h entries room =
       let need = columns-most h in
-      let have = le-div-iff-mul-le {k = stages n + 2} (omega arith) .1 room in
+      let have = columns-lent n room in
       le-leb (columnsNeeded n (grainExponent n p q)) (columns n entries) (omega arith)

@@ -8,6 +8,7 @@ pub mod Demand3
 pub mod Columns
 pub mod Call
 pub mod Floor
+pub mod Exact
 pub mod RoundsCall
 pub mod Rounds
 pub mod Program

@@ -2,16 +2,29 @@
 -- report over a block.
 use mathlib.Core.Path.{_≡_, refl, ap, _∙_}
 use mathlib.Core.List.{List}
-use Prim.Native.Nat.{ℕ, _≤_}
+use Prim.Native.Nat.{ℕ, _+_, _*_, _≤_}
+use native.Mathlib.Omega.{arith}
+use native.Mathlib.Nat.{mul-le-mul}
 use lib.ListN.{length, take}
 use lib.IntN.{ℤ}
 use Rattle.rules.specs.declared.Planned.{Planned}
-use Rattle.rules.specs.Tree.{stages}
+use Rattle.rules.specs.Tree.{Net, stages}
 use Rattle.rules.specs.Timing.{cost, slack}
-use Rattle.rules.specs.Reading.{accept, refuse}
+use Rattle.rules.specs.Reading.{accept, refuse, read}
 use Rattle.rules.specs.Planning.{Choice, PlanAnswer, planned, plan, planAnswer}
 use Rattle.rules.specs.Program.{programTable, programRoom, programPlanned}
-use Rattle.demands.specs.Call.{Settled, choice-settled, accepted-choice, number-refused, plan-accepted, plan-taken}
+use Rattle.facts.specs.Accepted.{accepted}
+use Rattle.oracle.specs.Rounding.{dividedUp}
+use Rattle.demands.specs.Columns.{columns-enough}
+use Rattle.demands.specs.Call.{Settled, choice-settled, not-short, accepted-choice, number-refused, plan-accepted, plan-taken}
+
+-- How large a net the program's table always serves: with at most 29 stages it is not refused with 12, because 9 × 29 columns of 31 entries are 8,091.
+pub program-never-short : (bs : List ℕ) (n : Net) → read bs ≡ accept n → stages n ≤ 29 → programPlanned bs ≡ refuse 12 → ⊥
+program-never-short bs n h few =
+    let wide : stages n + dividedUp (2 * 4 * stages n) 1 ≤ 261 = omega arith in
+    let tall : stages n + 2 ≤ 31 = omega arith in
+    let long : (stages n + dividedUp (2 * 4 * stages n) 1) * (stages n + 2) ≤ 261 * 31 = mul-le-mul wide tall in
+    not-short bs 1 4 programTable programRoom h (columns-enough (accepted bs n h) 1 4 (omega arith) programTable (omega (arith, long)))
 
 module _ (bs : List ℕ) (table : List ℤ) (buffer : List ℕ) (long : length table ≡ programTable) (room : length buffer ≡ programRoom)
     (r : Planned) {after : List ℕ} {cleaned : List ℤ} (same : planAnswer r after cleaned ≡ plan bs 1 4 table buffer) where

@@ -33,6 +33,7 @@ use Rattle.demands.specs.StageNumbers.{treeOf}
 use Rattle.demands.specs.Same.{cost-same, value-same, first-same}
 use Rattle.demands.specs.Plans.{plan-length, some-plan-iff}
 use Rattle.demands.specs.Values.{least-top, grain-below, grain-small}
+use Rattle.demands.specs.Columns.{columns-lent}
 use Rattle.demands.specs.Demand2.{chosen-some, chosen-is}
 use Rattle.demands.specs.RoundsCall.{rounds-in, rounds-numbered, rounds-unread, rounds-14, rounds-10, rounds-11, rounds-12, rounds-pass}
 use Rattle.demands.specs.RoundsCall.{roundsAnswerFor, rounds-accepted, rounds-refused, due-parts, run-is, highest-last}
@@ -136,11 +137,6 @@ few-columns {n} A r one top k due =
     let parts : 2 ^ maxExponent ≡ 2 ^ lastRun r * 2 ^ (r - 1) = ap (λ (i : ℕ). 2 ^ i) e ∙ pow-add 2 (lastRun r) (r - 1) in
     let less : 2 ^ lastRun r * leastRounded n k < 2 ^ maxExponent = omega (arith, mul-le-mul-right (leastRounded n k) (pow-mono due), grain-small A k) in
     lt-of-mul-lt-mul-left (2 ^ lastRun r) (rw parts at less)
-
--- A table with the entries of so many columns lends as many.
-columns-lent : (n : Net) {lent entries : ℕ} → lent * (stages n + 2) ≤ entries → lent ≤ columns n entries
-unfolding columns
-columns-lent n room = le-div-iff-mul-le {k = stages n + 2} (omega arith) .1 room
 
 -- The answer for a plan.
 abbrev answerWith : Net → ℕ → List ℤ → List ℕ → List ℕ → RoundsAnswer

@@ -148,7 +148,7 @@ unfoldable pub pointers : (A B : ℕ → ℤ) → ℕ → ℕ × ℕ
 pointers A B zero = (0, 0)
 pointers A B (suc w) = let p = pointers A B w in advance (leZ (A (p .0)) (B (p .1))) p
 
--- Two rows merged: the lesser of the entries at which the pointers stand (source 001, section 4.2.2 and Lemma 2).
+-- Two rows merged: the lesser of the entries at which the pointers stand (source 001, section 4.2.2 and Lemma 1).
 abbrev pub merge : (ℕ → ℤ) → (ℕ → ℤ) → ℕ → ℤ
 merge A B w = minZ (A (pointers A B w .0)) (B (pointers A B w .1))
 

@@ -1,5 +1,5 @@
 -- Costs rounded down to a grain: how far a sum of rounded costs may lie from the sum of the costs, and what doubling the grain does to it.
--- Source 000, section IV.B; source 001, section 3. The stage costs of a plan are a list cs of numbers, and g is the grain.
+-- Source 000, section IV.B; source 001, section 5. The stage costs of a plan are a list cs of numbers, and g is the grain.
 use mathlib.Core.Path.{_≡_, refl, sym}
 use mathlib.Core.List.{List, [], _∷_}
 use Prim.Native.Nat.{ℕ, suc, _+_, _*_, _-_, _/_, _^_, _≤_, _<_}

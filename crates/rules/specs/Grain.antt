@@ -1,5 +1,5 @@
 -- 01, 'Rounded cost and the grain': rounded cost, V(k), the grain, the plan chosen, the columns; and the floor (02, wish 6).
--- Rounding costs down to a grain and searching by rounded cost: source 000, section IV.B; source 001, section 3.
+-- Rounding costs down to a grain and searching by rounded cost: source 000, section IV.B; source 001, section 5.
 use mathlib.Core.Bool.{Bool, _&&_}
 use mathlib.Core.Option.{Option}
 use mathlib.Core.List.{List, [], _∷_, head?}

@@ -1,7 +1,8 @@
 -- 01, 'Timing rule': load, edge and gate delay, required time, slack, meeting timing; cost. With the vias of 02, wish 5.
 -- Source 001, section 2 (Elmore delay; required and arrival time), intrinsic gate delay as in source 002, section 2.1. A tick is half the product of
 -- the two units, so nothing is halved. A via is a resistance that the current to all load behind it passes, as Elmore delay counts every resistance (source
--- 001, section 2); delays of vias between pin and layer: source 003, sections 7.3 and 7.4. It has no capacitance, so no load rests on it.
+-- 001, section 2). That pins are reached by vias, and that vias have a delay: source 003, sections 7.3.3 and 7.4.1; how much is 02's. It has no
+-- capacitance, so no load rests on it.
 use mathlib.Core.Bool.{Bool, true, false}
 use mathlib.Core.List.{List, map}
 use Prim.Native.Nat.{ℕ, zero, suc, _+_, _*_}

@@ -10,8 +10,8 @@ use Rattle.laws.specs.Basic.{from, keep, all}
 use Rattle.rules.specs.declared.Kind.{Kind}
 use Rattle.rules.specs.declared.Kind.the-variants.{Steiner, Buffer, Sink}
 
--- A layer is a horizontal and vertical pair: its unit resistance and unit capacitance (01, Net bytes; source 001, section 2), and the resistance of the via
--- between a pin and the layer (02, wish 5).
+-- A layer is a horizontal and vertical pair (source 001, section 2): its unit resistance and unit capacitance (01, Net bytes; source 002, section 2.1), and
+-- the resistance of the via between a pin and the layer (02, wish 5).
 pub record Layer : Type 0 where
   pub unitRes : ℕ
   pub unitCap : ℕ

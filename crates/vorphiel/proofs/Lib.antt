@@ -1,4 +1,2 @@
 pub mod Checking
 pub mod Judging
-pub mod Planning
-pub mod Rounds

@@ -1,16 +1,11 @@
 // The open calls of the layer planner. Each answers for every input; each contract is one equation with the rules of documents 01 and 02.
-use fields::share_in_range;
-use fields::within;
-use planning::plan_net;
-use planning::refused;
+use calls::planned;
+use calls::planned_rounds;
 use reader::Net;
 use reader::net_refusal;
 use reader::read;
-use rounds_planning::rounds_net;
-use rounds_planning::rounds_refused;
 use rules::Checked;
 use rules::Judged;
-use rules::MAX_ROUNDS;
 use rules::Planned;
 use rules::Report;
 use rules::RoundsPlanned;
@@ -26,8 +21,7 @@ ghost use Rattle.rules.specs.Planning.{planAnswer, plan, Demand2, Demand3};
 ghost use Rattle.rules.specs.Rounds.{roundsAnswer, planRounds, RoundsPromise};
 ghost use Rattle.rules.specs.Chart.{tableEntries};
 ghost use Rattle.rules.specs.Block.{report, BlockPromise};
-ghost use Rattle.planning.specs.Calls.{PlansNet};
-ghost use Rattle.rounds_planning.specs.Calls.{PlansRounds};
+ghost use Rattle.vorphiel.specs.Version.{version};
 
 // Checking (01, Reading): the counts of nodes, stages and layers of the net that the bytes hold, or the number of the first fault and zeros.
 pub fn check(net: &[u8]) -> Checked
@@ -115,31 +109,6 @@ pub extern "C" fn vorphiel_judge(net: &[u8], plan: &[u8], cost: &mut u64, slack:
     judged.refusal
 }
 
-// Planning, by the refusals in their order: 1 to 6 of the net, 9, 10, and what the search gives.
-fn planned(net: &[u8], p: u64, q: u64, table: &mut [i64], buffer: &mut [u8]) -> Planned
-    ensures { λ r. ⌜ PlansNet (now (net .entry)) p q (now (table .entry)) (now (table .exit)) (now (buffer .entry)) (now (buffer .exit)) r ⌝ }
-{
-    let mut words = [0u32; WORDS];
-    let found = read(net, true, &mut words);
-    let Net::Read {
-        nodes,
-        stages,
-        layers,
-    } = found
-    else {
-        return refused(net_refusal(found));
-    };
-    let in_range = share_in_range(p, q);
-    let roomy = stages <= buffer.len();
-    if !in_range {
-        return refused(9);
-    }
-    if !roomy {
-        return refused(10);
-    }
-    plan_net(&words, layers, nodes, stages, p, q, table, buffer)
-}
-
 // Planning (01, Planning) with share p/q: the plan chosen into the first bytes of `buffer`, its cost and slack, k of the grain and the floor g × V(k) (02, wish
 // 6); or a refusal number and zeros. The clauses: all that it answers and leaves is what the definition says; demand 2 for planning; demand 3, whole. What the
 // floor is good for follows from the definition: `floor-promise` in crates/demands/specs/Floor.antt.
@@ -184,31 +153,6 @@ pub extern "C" fn vorphiel_plan(
     *k = planned.k;
     *floor = planned.floor;
     planned.refusal
-}
-
-// Planning by rounds, by the refusals in their order: 1 to 6 of the net, 14, 10, and what the rounds give.
-fn planned_rounds(net: &[u8], r: u64, table: &mut [i64], buffer: &mut [u8]) -> RoundsPlanned
-    ensures { λ a. ⌜ PlansRounds (now (net .entry)) r (now (table .entry)) (now (table .exit)) (now (buffer .entry)) (now (buffer .exit)) a ⌝ }
-{
-    let mut words = [0u32; WORDS];
-    let found = read(net, true, &mut words);
-    let Net::Read {
-        nodes,
-        stages,
-        layers,
-    } = found
-    else {
-        return rounds_refused(net_refusal(found));
-    };
-    let r_in_range = within(r, 1, MAX_ROUNDS);
-    let plan_fits = stages <= buffer.len();
-    if !r_in_range {
-        return rounds_refused(14);
-    }
-    if !plan_fits {
-        return rounds_refused(10);
-    }
-    rounds_net(&words, layers, nodes, stages, r, table, buffer)
 }
 
 // The best plan after some rounds (02, wish 7): the cheapest plan of at most r rounds into the first bytes of `buffer`, its cost and slack, the floor and the
@@ -286,4 +230,19 @@ pub extern "C" fn vorphiel_report(block: &[u8]) -> Report
     ensures { λ r. ⌜ BlockPromise (now (block .entry)) r ⌝ }
 {
     report(block)
+}
+
+// The library's version (CHANGELOG.md), counted as the header counts its own.
+pub fn version() -> u64
+    ensures { λ r. ⌜ r ≡ version ⌝ }
+{
+    10000
+}
+
+// The version for hosts in other languages.
+#[no_mangle]
+pub extern "C" fn vorphiel_version() -> u64
+    ensures { λ r. ⌜ r ≡ version ⌝ }
+{
+    version()
 }

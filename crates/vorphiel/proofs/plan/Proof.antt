@@ -5,7 +5,7 @@ use Rattle.vorphiel.proofs.plan.Statement.{statement}
 use Rattle.vorphiel.proofs.plan.Tie as tie
 use Rattle.vorphiel.proofs.plan.Reads as reads
 use Rattle.vorphiel.proofs.plan.Lts as lts
-use Rattle.vorphiel.proofs.planned.Reads as planned-reads
+use Rattle.calls.proofs.planned.Reads as planned-reads
 
 planned-requires : tie.Need-planned-requires
 planned-requires c κs = search needs

@@ -7,7 +7,7 @@ use Rattle.vorphiel.proofs.plan_rounds.Statement.{statement}
 use Rattle.vorphiel.proofs.plan_rounds.Tie as tie
 use Rattle.vorphiel.proofs.plan_rounds.Reads as reads
 use Rattle.vorphiel.proofs.plan_rounds.Lts as lts
-use Rattle.vorphiel.proofs.planned_rounds.Reads as planned-rounds-reads
+use Rattle.calls.proofs.planned_rounds.Reads as planned-rounds-reads
 
 planned-rounds-requires : tie.Need-planned-rounds-requires
 planned-rounds-requires c κs = search needs

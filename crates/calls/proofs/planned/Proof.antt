@@ -5,11 +5,11 @@ use borrow.Author.Tests.{not-true, not-false, leb-true, leb-false}
 use Rattle.reader.specs.Kept.{Kept, held-read}
 use Rattle.demands.specs.Call.{refusedWith}
 use Rattle.reader.specs.Net.{netRefusal}
-use Rattle.vorphiel.proofs.Planning.{plan-unread, plan-9, plan-10, admitted}
-use Rattle.vorphiel.proofs.planned.Statement.{statement}
-use Rattle.vorphiel.proofs.planned.Tie as tie
-use Rattle.vorphiel.proofs.planned.Reads as reads
-use Rattle.vorphiel.proofs.planned.Lts as lts
+use Rattle.calls.proofs.Planning.{plan-unread, plan-9, plan-10, admitted}
+use Rattle.calls.proofs.planned.Statement.{statement}
+use Rattle.calls.proofs.planned.Tie as tie
+use Rattle.calls.proofs.planned.Reads as reads
+use Rattle.calls.proofs.planned.Lts as lts
 use Rattle.fields.proofs.share_in_range.Reads as share-in-range-reads
 use Rattle.planning.proofs.plan_net.Reads as plan-net-reads
 use Rattle.planning.proofs.refused.Reads as refused-reads

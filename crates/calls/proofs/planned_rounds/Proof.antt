@@ -5,11 +5,11 @@ use borrow.Author.Tests.{not-true, not-false, leb-true, leb-false}
 use Rattle.reader.specs.Kept.{Kept, held-read}
 use Rattle.demands.specs.RoundsCall.{roundsRefused}
 use Rattle.reader.specs.Net.{netRefusal}
-use Rattle.vorphiel.proofs.Rounds.{unread-by-rounds, refused-14, refused-10, admitted-by-rounds}
-use Rattle.vorphiel.proofs.planned_rounds.Statement.{statement}
-use Rattle.vorphiel.proofs.planned_rounds.Tie as tie
-use Rattle.vorphiel.proofs.planned_rounds.Reads as reads
-use Rattle.vorphiel.proofs.planned_rounds.Lts as lts
+use Rattle.calls.proofs.Rounds.{unread-by-rounds, refused-14, refused-10, admitted-by-rounds}
+use Rattle.calls.proofs.planned_rounds.Statement.{statement}
+use Rattle.calls.proofs.planned_rounds.Tie as tie
+use Rattle.calls.proofs.planned_rounds.Reads as reads
+use Rattle.calls.proofs.planned_rounds.Lts as lts
 use Rattle.fields.proofs.within.Reads as within-reads
 use Rattle.reader.proofs.read.Reads as read-reads
 use Rattle.reader.proofs.net_refusal.Reads as net-refusal-reads
