@@ -11,10 +11,12 @@ SHARES = 10
 
 HEAD = """# Wall chart: table lengths that always serve
 
-How many entries of 64 bits to lend to planning. A net of s stages at share 1/q is never refused with 12 if the table has at least the number in line s, column 1/q:
-(s + 2) × (s + 2qs). At share 1/q the plan costs at most 1/q more than the cheapest plan that meets timing.
+How many entries of 64 bits to lend to planning. A net of s stages at share 1/q is never refused with 12 if the table
+has at least the number in line s, column 1/q: (s + 2) × (s + 2qs). At share 1/q the plan costs at most 1/q more than
+the cheapest plan that meets timing.
 
-Made by `docs/chart.py` from what the program `wall_chart` prints. A host gets the same numbers from `vorphiel_table_entries(s, q)`.
+Made by `docs/chart.py` from what the program `wall_chart` prints. A host gets the same numbers from
+`vorphiel_table_entries(s, q)`.
 """
 
 

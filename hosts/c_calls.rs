@@ -32,6 +32,9 @@ macro_rules! c_calls {
 }
 
 c_calls! {
+    /// The version of the library, as major * 10,000 + minor * 100 + patch.
+    Version = vorphiel_version() -> u64;
+
     /// Reads a net. The answer is a refusal's number, 0 if there is none; so also in `Judge`, `Plan` and `PlanRounds`.
     Check = vorphiel_check(net: *const u8, net_len: usize, nodes: *mut u64, stages: *mut u64, layers: *mut u64) -> u8;
 

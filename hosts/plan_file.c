@@ -1,45 +1,64 @@
-/* A host in C: plans the net that a file holds.
- *
- *     plan_file NET [P Q]
- *     plan_file --rounds R NET
- *
- * The share is P/Q, or 1/4 if none is given; share 0/1 asks for the cheapest plan. Printed are the line of the scope document's program and the floor:
- *
- *     cost 35 grain 4 slack 0 plan 0 1
- *     floor 32: no plan that meets timing costs less
- *
- * With --rounds the plan is the cheapest that R rounds find, R from 1 to 29. Printed is one line; it says fewer rounds than R where they ended early, as the
- * longest table that this host lends has too few columns for the next:
- *
- *     cost 32 slack 0 floor 32 rounds 29 plan 1 0
- *
- * A refusal prints "refused" and its number, and says on standard error what that means. Exit status: 0 planned, 1 refused, 2 not tried (wrong use, a file that
- * cannot be read, no memory). Unlike the program, which has one fixed table, this host lends a table that is long enough.
+/* A host in C: plans the net that a file holds, with a share or by rounds. HELP below says how it is used, what it
+ * prints and its exit statuses. Unlike the program plan_net, which has one fixed table, it lends a table that is long
+ * enough.
  *
  * Build: cc -std=c11 -Wall -Wextra -Werror -I include hosts/plan_file.c target/staticlib/libvorphiel.a -o plan_file */
-#include "vorphiel.h"
+#define HOST "plan_file"
+#include "host.h"
 
-#include <errno.h>
-#include <inttypes.h>
-#include <stdio.h>
 #include <stdlib.h>
-#include <string.h>
 
-enum { PLANNED = 0, REFUSED = 1, NOT_TRIED = 2 };
+static const char HELP[] =
+    "usage: plan_file NET [SHARE]\n"
+    "       plan_file --rounds R NET\n"
+    "       plan_file --help | --version\n"
+    "\n"
+    "Plans the net in the file NET: a layer for each stage, so that every sink is reached in time at little cost. A net\n"
+    "is bytes; nets/hex.py makes them of text. NET may be - for standard input; a file -NAME is given as ./-NAME.\n"
+    "\n"
+    "  SHARE       P/Q or P Q, with P from 0 to 1,000 and Q from 1 to 1,000: the plan costs at most P/Q more than the\n"
+    "              cheapest. 1/4 if none is given; 0/1 asks for the cheapest plan\n"
+    "  --rounds R  in the place of a share: the cheapest plan that R rounds find, R from 1 to 29\n"
+    "  --help      prints this\n"
+    "  --version   prints the version of the library\n"
+    "\n"
+    "Printed are, with a share, the plan (the layer of each stage) and a floor under the cost of every plan:\n"
+    "\n"
+    "  cost 35 grain 4 slack 0 plan 0 1\n"
+    "  floor 32: no plan that meets timing costs less\n"
+    "\n"
+    "with rounds one line, which says fewer than R where the longest table lent is too short for all of them:\n"
+    "\n"
+    "  cost 32 slack 0 floor 32 rounds 29 plan 1 0\n"
+    "\n"
+    "and for a refusal its number, with what that means on standard error:\n"
+    "\n"
+    "  refused 11\n"
+    "\n"
+    "Exit status: 0 planned; 1 refused; 2 not tried: wrong use, a file that cannot be read, output that cannot be\n"
+    "written, no memory, or a share of 0 that may take a table of more than 512 MiB.\n";
 
 enum { MOST_STAGES = 64, MOST_SHARE = 1000, MOST_ROUNDS = 29 };
 
-/* The columns of a small table, for a beginning where no rule says how many are enough. */
+/* The tag with which a block begins. */
+enum { BLOCK_TAG = 6 };
+
+/* The columns of a small table, for the first call with rounds. */
 enum { FEW_COLUMNS = 64 };
 
-/* The longest table lent for share 0 or for rounds: 128 MiB, about twice what any share above 0 can need (64 stages, share 1/1,000: 8,452,224 entries). */
-static const size_t MOST_ENTRIES = (size_t)1 << 24;
+/* The longest table lent for share 0 or for rounds: 512 MiB, about eight times what any share above 0 can need
+ * (64 stages, share 1/1,000: 8,452,224 entries). */
+static const uint64_t MOST_ENTRIES = (uint64_t)1 << 26;
 
 /* What is asked for: r rounds, or else the share p/q. */
 struct asked {
+    const char *file;
     int by_rounds;
     uint64_t r, p, q;
 };
+
+/* The share if none is given, with which share 0 begins too. */
+static const struct asked QUARTER = {.p = 1, .q = 4};
 
 /* What vorphiel_plan answers, or vorphiel_plan_rounds: the former has k, the latter rounds. */
 struct planned {
@@ -49,165 +68,197 @@ struct planned {
     int64_t slack;
 };
 
-struct bytes { uint8_t *at; size_t len; };
-
-static const char *const WORDS[] = {
-    "accepted",
-    "a field is due and fewer than three bytes are left, or its payload is not all there",
-    "a tag that is not allowed there, or a length that its kind does not have",
-    "a number outside its range",
-    "a 256th node after the driver, or a 64th buffer",
-    "a bad parent: not a lower number, a sink, or one that has two children already",
-    "a childless node that is no sink",
-    "the plan's length is not the number of stages",
-    "a layer number that is not below the layer count",
-    "the share is out of range: P is at most 1,000 and Q is 1 to 1,000",
-    "the plan buffer is shorter than the number of stages",
-    "no plan of this net meets timing",
-    "the table has too few columns; a larger share needs fewer",
-    "no block: more than 65,536 bytes, a field of another tag than 6, or cut short",
-    "the number of rounds is outside 1 to 29",
-};
-
-static int usage(void)
+/* Reads a number of 64 bits at the front of a text, digits only, as strtoull alone also takes signs and spaces: the
+ * text after it, or NULL if there is none. */
+static const char *after_number(const char *text, uint64_t *value)
 {
-    fputs("usage: plan_file NET [P Q]\n  plans the net in the file NET with share P/Q (1/4 if not given)\n"
-          "       plan_file --rounds R NET\n  gives the cheapest plan that R rounds find, R from 1 to 29\n",
-          stderr);
-    return NOT_TRIED;
+    if (text == NULL || *text < '0' || *text > '9')
+        return NULL;
+    char *rest;
+    errno = 0;
+    unsigned long long number = strtoull(text, &rest, 10);
+    if (errno != 0 || number > UINT64_MAX)
+        return NULL;
+    *value = number;
+    return rest;
 }
 
-static int no_memory(void)
-{
-    fputs("plan_file: no memory\n", stderr);
-    return NOT_TRIED;
-}
-
-/* Whether a text is a number of 64 bits: digits only, as strtoull alone also takes signs and spaces. */
 static int is_number(const char *text, uint64_t *value)
 {
-    if (text[0] == '\0' || text[strspn(text, "0123456789")] != '\0')
-        return 0;
-    errno = 0;
-    unsigned long long number = strtoull(text, NULL, 10);
-    if (errno != 0 || number > UINT64_MAX)
-        return 0;
-    *value = number;
-    return 1;
+    const char *rest = after_number(text, value);
+    return rest != NULL && *rest == '\0';
 }
 
-/* Makes room for more bytes, twice as much each time. */
-static int grow(struct bytes *net, size_t *room)
+/* Whether one argument is a share such as 1/4, or two are. */
+static int is_share(const char *first, const char *second, struct asked *asked)
 {
-    size_t more = *room == 0 ? 4096 : *room * 2;
-    uint8_t *at = more > *room ? realloc(net->at, more) : NULL;
-    if (at == NULL)
-        return 0;
-    net->at = at;
-    *room = more;
-    return 1;
+    if (second != NULL)
+        return is_number(first, &asked->p) && is_number(second, &asked->q);
+    const char *rest = after_number(first, &asked->p);
+    return rest != NULL && *rest == '/' && is_number(rest + 1, &asked->q);
 }
 
-/* Reads an open file to its end. */
-static int read_all(FILE *file, const char *name, struct bytes *net)
+/* Says that an argument is not what is due there, or that two are not; the second is NULL if there is one only. */
+static int wrong_argument(const char *first, const char *second, const char *words)
 {
-    size_t room = 0;
-    while (!feof(file)) {
-        if (net->len == room && !grow(net, &room))
-            return no_memory();
-        net->len += fread(net->at + net->len, 1, room - net->len, file);
-        if (ferror(file)) {
-            fprintf(stderr, "plan_file: %s: %s\n", name, strerror(errno));
-            return NOT_TRIED;
-        }
-    }
+    fprintf(stderr, HOST ": %s%s%s: %s\n", first, second != NULL ? " " : "", second != NULL ? second : "", words);
+    return NOT_TRIED;
+}
+
+/* Reads what is given beside the options: the file, and perhaps a share. */
+static int read_given(const struct given *given, struct asked *asked)
+{
+    const char *first = given->at[1], *second = given->at[2];
+    asked->file = given->at[0];
+    if (asked->file == NULL)
+        return no_file();
+    if (first == NULL)
+        return 0;
+    if (asked->by_rounds)
+        return wrong_argument(first, second, "no share is taken with --rounds");
+    if (!is_share(first, second, asked))
+        return wrong_argument(first, second, "no share; one is written after the file, as 1/4 or as two numbers, 1 4");
     return 0;
 }
 
-/* The bytes of a file; the caller frees them, also after a fault. */
-static int read_file(const char *name, struct bytes *net)
+static int read_arguments(int count, char **arguments, struct asked *asked)
 {
-    FILE *file = fopen(name, "rb");
-    if (file == NULL) {
-        fprintf(stderr, "plan_file: %s: %s\n", name, strerror(errno));
-        return NOT_TRIED;
+    struct given given = {0};
+    int fault = 0;
+    for (int i = 1; i < count && fault == 0; i++) {
+        if (strcmp(arguments[i], "--rounds") != 0) {
+            fault = take(arguments[i], MOST_GIVEN, &given);
+        } else {
+            i++; /* After the last argument stands NULL. */
+            asked->by_rounds = 1;
+            if (!is_number(arguments[i], &asked->r))
+                fault = wrong_argument("--rounds", arguments[i], "a number from 1 to 29 is due, and then the file");
+        }
     }
-    int fault = read_all(file, name, net);
-    fclose(file);
-    return fault;
+    return fault == 0 ? read_given(&given, asked) : fault;
 }
 
-/* How long a table to lend at first, for a net of s stages.
- *
- * With p at least 1 there is a length that is never too short: the chart's number for the shares 1/1 to 1/10, the header's rule for the others. Share 0 has no
- * such rule: the table must have a column for every cost up to the cheapest plan's, which is not known beforehand; so it begins small, and plan_by_share doubles
- * it. A share that is out of range is refused before the table is looked at, so any length will do; the test stands first, so that nothing is divided by 0 and no
- * product is too large. */
-static size_t first_entries(uint64_t s, const struct asked *share)
+/* Whether p and q are within their ranges. */
+static int is_in_range(const struct asked *share)
 {
-    if (share->p > MOST_SHARE || share->q < 1 || share->q > MOST_SHARE)
+    return share->p <= MOST_SHARE && share->q >= 1 && share->q <= MOST_SHARE;
+}
+
+/* A table length that is never too short for a net of s stages and a share above 0: the chart's number for the shares
+ * 1/1 to 1/10, the header's rule for the others. A share that is out of range is refused before the table is looked
+ * at, so any length will do; that test stands first, so that nothing is divided by 0 and no product is too large. */
+static uint64_t enough_entries(uint64_t s, const struct asked *share)
+{
+    if (!is_in_range(share) || share->p == 0)
         return 1;
     uint64_t charted = share->p == 1 ? vorphiel_table_entries(s, share->q) : 0;
-    if (charted > 0)
-        return charted;
-    uint64_t columns = FEW_COLUMNS;
-    if (share->p > 0)
-        columns = s + (2 * share->q * s + share->p - 1) / share->p;
-    return columns * (s + 2);
+    return charted > 0 ? charted : (s + (2 * share->q * s + share->p - 1) / share->p) * (s + 2);
 }
 
-/* One call with a table of this many entries, at most MOST_ENTRIES. What the table holds beforehand does not matter, so it is not cleared. */
-static int plan_with(const struct bytes *net, const struct asked *asked, size_t entries, struct planned *answer)
+/* A table length that is never too short, at share 0 as at any other, once a plan of this cost is known that meets
+ * timing: at share 0 the search needs a column for each cost up to the cheapest plan's, which is no dearer. No plan
+ * costs more than 255,000,000. */
+static uint64_t enough_by_cost(uint64_t s, uint64_t cost)
+{
+    return (cost + 1) * (s + 2);
+}
+
+/* The room that a table takes, rounded up. */
+static uint64_t mebibytes(uint64_t entries)
+{
+    return (entries * sizeof(int64_t) + ((uint64_t)1 << 20) - 1) >> 20;
+}
+
+/* One call with a table of this many entries. What it holds beforehand does not matter, so it is not cleared. */
+static int plan_with(const struct input *net, const struct asked *asked, uint64_t entries, struct planned *answer)
 {
     int64_t *table = malloc(entries * sizeof *table);
-    if (table == NULL)
-        return no_memory();
+    if (table == NULL) {
+        fprintf(stderr, HOST ": %s: no memory for a table of %" PRIu64 " entries (%" PRIu64 " MiB)\n", net->name, entries,
+                mebibytes(entries));
+        return NOT_TRIED;
+    }
     if (asked->by_rounds)
-        answer->refusal = vorphiel_plan_rounds(net->at, net->len, asked->r, table, entries, answer->plan, sizeof answer->plan, &answer->cost, &answer->slack,
-                                               &answer->floor, &answer->rounds);
+        answer->refusal = vorphiel_plan_rounds(net->at, net->len, asked->r, table, entries, answer->plan, MOST_STAGES,
+                                               &answer->cost, &answer->slack, &answer->floor, &answer->rounds);
     else
-        answer->refusal = vorphiel_plan(net->at, net->len, asked->p, asked->q, table, entries, answer->plan, sizeof answer->plan, &answer->cost,
-                                        &answer->slack, &answer->k, &answer->floor);
+        answer->refusal = vorphiel_plan(net->at, net->len, asked->p, asked->q, table, entries, answer->plan, MOST_STAGES,
+                                        &answer->cost, &answer->slack, &answer->k, &answer->floor);
     free(table);
     return 0;
 }
 
-/* Plans a net of s stages with a share. Only share 0 comes here to a second table: 12 says that the last was too short, and nothing else is wrong. */
-static int plan_by_share(const struct bytes *net, uint64_t s, const struct asked *share, struct planned *answer)
+/* Says that share 0 may take too long a table, when the plan at share 1/4 has this cost. */
+static int too_long(const struct input *net, uint64_t entries, uint64_t cost)
 {
-    size_t entries = first_entries(s, share);
-    int fault = plan_with(net, share, entries, answer);
-    while (fault == 0 && answer->refusal == 12 && entries < MOST_ENTRIES) {
-        entries = entries < MOST_ENTRIES / 2 ? entries * 2 : MOST_ENTRIES;
-        fault = plan_with(net, share, entries, answer);
-    }
-    return fault;
+    fprintf(stderr,
+            HOST ": %s: share 0 may take a table of %" PRIu64 " entries (%" PRIu64 " MiB); this host lends %" PRIu64 " (%" PRIu64 " MiB) at most\n",
+            net->name, entries, mebibytes(entries), MOST_ENTRIES, mebibytes(MOST_ENTRIES));
+    fprintf(stderr,
+            HOST ": at share 1/4 the plan costs %" PRIu64 "; ask for a share such as 1/100, or lend more in a host of your own\n",
+            cost);
+    return NOT_TRIED;
 }
 
-/* Plans a net of s stages by rounds. Where a small table ends them early, the second has columns for all of them, if it is not longer than is lent here: the
- * round at k needs one more than the least rounded cost, which is at most the cost of the first plan divided by 2^k. */
-static int plan_by_rounds(const struct bytes *net, uint64_t s, const struct asked *asked, struct planned *answer)
+/* Plans a net of s stages with a share. At share 0 the table is sized by the cost of a plan at another share. */
+static int plan_by_share(const struct input *net, uint64_t s, const struct asked *share, struct planned *answer)
+{
+    if (share->p > 0 || !is_in_range(share))
+        return plan_with(net, share, enough_entries(s, share), answer);
+    int fault = plan_with(net, &QUARTER, enough_entries(s, &QUARTER), answer);
+    if (fault != 0 || answer->refusal != 0)
+        return fault;
+    uint64_t entries = enough_by_cost(s, answer->cost);
+    return entries > MOST_ENTRIES ? too_long(net, entries, answer->cost) : plan_with(net, share, entries, answer);
+}
+
+/* Plans a net of s stages by rounds. Where a small table ends them early, the second has columns for all of them, if
+ * it is not longer than is lent here: by the cost of the first plan in grains of the last round. */
+static int plan_by_rounds(const struct input *net, uint64_t s, const struct asked *asked, struct planned *answer)
 {
     int fault = plan_with(net, asked, FEW_COLUMNS * (s + 2), answer);
     if (fault != 0 || answer->refusal != 0 || answer->rounds == asked->r)
         return fault;
-    uint64_t entries = ((answer->cost >> (MOST_ROUNDS - asked->r)) + 1) * (s + 2);
+    uint64_t entries = enough_by_cost(s, answer->cost >> (MOST_ROUNDS - asked->r));
     return plan_with(net, asked, entries < MOST_ENTRIES ? entries : MOST_ENTRIES, answer);
 }
 
-static void print_refusal(uint8_t refusal)
+/* Says why bytes are no net, and what to do: perhaps they are text, or a block. */
+static void say_no_net(const struct input *net, uint8_t refusal)
+{
+    if (looks_like_text(net)) {
+        say(net->name, "looks like text, and a net is bytes");
+        say_command("to make them", "bytes", net, "net");
+    } else if (net->len > 0 && net->at[0] == BLOCK_TAG) {
+        say(net->name, "begins with tag 6, as a block of nets does, and a net with 1 or 7");
+        fprintf(stderr, HOST ": report_file %s reports over a block\n", net->argument);
+    } else {
+        say_fault(net, refusal);
+    }
+}
+
+static void print_refusal(const struct input *net, const struct asked *asked, uint8_t refusal)
 {
     printf("refused %d\n", refusal);
-    fprintf(stderr, "plan_file: %s\n", refusal < sizeof WORDS / sizeof WORDS[0] ? WORDS[refusal] : "a refusal that this host does not know");
+    if (refusal <= 6)
+        say_no_net(net, refusal);
+    else if (refusal == 9)
+        fprintf(stderr, HOST ": %" PRIu64 "/%" PRIu64 ": %s\n", asked->p, asked->q, refusal_words(refusal));
+    else if (refusal == 14)
+        fprintf(stderr, HOST ": --rounds %" PRIu64 ": %s\n", asked->r, refusal_words(refusal));
+    else
+        say(net->name, refusal_words(refusal));
 }
 
 /* The line for a plan; after planning with a share also that of the floor. */
 static void print_plan(const struct planned *answer, uint64_t s, int by_rounds)
 {
     if (by_rounds)
-        printf("cost %" PRIu64 " slack %" PRId64 " floor %" PRIu64 " rounds %" PRIu64 " plan", answer->cost, answer->slack, answer->floor, answer->rounds);
+        printf("cost %" PRIu64 " slack %" PRId64 " floor %" PRIu64 " rounds %" PRIu64 " plan", answer->cost, answer->slack,
+               answer->floor, answer->rounds);
     else
-        printf("cost %" PRIu64 " grain %" PRIu64 " slack %" PRId64 " plan", answer->cost, (uint64_t)1 << answer->k, answer->slack);
+        printf("cost %" PRIu64 " grain %" PRIu64 " slack %" PRId64 " plan", answer->cost, (uint64_t)1 << answer->k,
+               answer->slack);
     for (uint64_t stage = 0; stage < s; stage++)
         printf(" %d", answer->plan[stage]);
     printf("\n");
@@ -216,47 +267,33 @@ static void print_plan(const struct planned *answer, uint64_t s, int by_rounds)
 }
 
 /* Checks the net for its number of stages, plans it, and prints what came of it. */
-static int plan_and_print(const struct bytes *net, const struct asked *asked)
+static int plan_and_print(const struct input *net, const struct asked *asked)
 {
     uint64_t nodes, stages, layers;
     struct planned answer = {0};
+    int fault = 0;
     answer.refusal = vorphiel_check(net->at, net->len, &nodes, &stages, &layers);
-    if (answer.refusal == 0) {
-        int fault = (asked->by_rounds ? plan_by_rounds : plan_by_share)(net, stages, asked, &answer);
-        if (fault != 0)
-            return fault;
-    }
+    if (answer.refusal == 0)
+        fault = (asked->by_rounds ? plan_by_rounds : plan_by_share)(net, stages, asked, &answer);
+    if (fault != 0)
+        return fault;
     if (answer.refusal == 0)
         print_plan(&answer, stages, asked->by_rounds);
     else
-        print_refusal(answer.refusal);
-    if (fflush(stdout) != 0) {
-        fprintf(stderr, "plan_file: standard output: %s\n", strerror(errno));
-        return NOT_TRIED;
-    }
-    return answer.refusal == 0 ? PLANNED : REFUSED;
-}
-
-/* The file's name, and what is asked for; no name where the arguments are wrong. */
-static const char *read_arguments(int count, char **arguments, struct asked *asked)
-{
-    asked->by_rounds = count > 1 && strcmp(arguments[1], "--rounds") == 0;
-    if (asked->by_rounds)
-        return count == 4 && is_number(arguments[2], &asked->r) ? arguments[3] : NULL;
-    int share_given = count == 4 && is_number(arguments[2], &asked->p) && is_number(arguments[3], &asked->q);
-    return count == 2 || share_given ? arguments[1] : NULL;
+        print_refusal(net, asked, answer.refusal);
+    return written(answer.refusal == 0 ? DONE : REFUSED);
 }
 
 int main(int count, char **arguments)
 {
-    struct asked asked = {.p = 1, .q = 4};
-    const char *name = read_arguments(count, arguments, &asked);
-    if (name == NULL)
-        return usage();
-    struct bytes net = {NULL, 0};
-    int status = read_file(name, &net);
-    if (status == 0)
-        status = plan_and_print(&net, &asked);
-    free(net.at);
-    return status;
+    static struct input net;
+    struct asked asked = QUARTER;
+    if (!is_one_version())
+        return NOT_TRIED;
+    if (is_answered(count, arguments, HELP))
+        return written(DONE);
+    int fault = read_arguments(count, arguments, &asked);
+    if (fault == 0)
+        fault = read_input(asked.file, &net);
+    return fault == 0 ? plan_and_print(&net, &asked) : fault;
 }

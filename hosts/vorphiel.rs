@@ -7,7 +7,7 @@
 #[path = "c_calls.rs"] // Beside this file, wherever it is taken from.
 mod c_calls;
 
-use c_calls::{Check, Judge, Plan, PlanRounds, Report, TableEntries};
+use c_calls::{Check, Judge, Plan, PlanRounds, Report, TableEntries, Version};
 use std::fmt;
 
 pub use c_calls::Totals;
@@ -39,8 +39,8 @@ impl fmt::Display for Refusal {
             8 => "a layer number that is not below the layer count",
             9 => "the share is out of range: P is at most 1,000 and Q is 1 to 1,000",
             10 => "the plan buffer is shorter than the number of stages",
-            11 => "no plan of this net meets timing",
-            12 => "the table has too few columns; a larger share needs fewer",
+            11 => "no plan of this net meets timing; allow more time, or change the net",
+            12 => "the table has too few columns; lend a longer one, or ask for a larger share",
             13 => "no block: more than 65,536 bytes, a field of another tag than 6, or cut short",
             14 => "the number of rounds is outside 1 to 29",
             _ => "a refusal that this host does not know",
@@ -91,6 +91,13 @@ fn accepted<T>(refusal: u8, answer: T) -> Result<T, Refusal> {
     } else {
         Err(Refusal(refusal))
     }
+}
+
+/// The version of the library that is linked: major, minor, patch.
+pub fn version() -> (u64, u64, u64) {
+    // SAFETY: the call takes nothing.
+    let version = unsafe { Version {}.make() };
+    (version / 10_000, version / 100 % 100, version % 100)
 }
 
 /// Reads a net, whose layers have tag 1, or tag 7 and a via resistance each: its counts, or the first fault met (1 to 6).
@@ -176,8 +183,9 @@ pub fn table_entries(stages: u64, q: u64) -> Option<u64> {
     (entries > 0).then_some(entries)
 }
 
-/// A table length that is never too short for a net of this many stages: the chart's number where it has one, else (s + ceil(2qs / p)) * (s + 2). None where
-/// there is no such rule: share 0, whose table depends on the cost of the cheapest plan, and shares out of range, which are refused whatever the table.
+/// A table length that is never too short for a net of this many stages: the chart's number where it has one, else
+/// (s + ceil(2qs / p)) * (s + 2). None where the share alone does not tell: at share 0, for which `enough_by_cost` is
+/// there, and for shares out of range, which are refused whatever the table.
 pub fn enough_entries(stages: u64, p: u64, q: u64) -> Option<usize> {
     let charted = if p == 1 { table_entries(stages, q) } else { None };
     if let Some(entries) = charted {
@@ -190,9 +198,15 @@ pub fn enough_entries(stages: u64, p: u64, q: u64) -> Option<usize> {
     usize::try_from(columns.checked_mul(stages.checked_add(2)?)?).ok()
 }
 
-/// A table length with which all of r rounds are run, r from 1 to 29, once a plan of this cost is known that meets timing: (cost / 2^(29 - r) + 1) * (s + 2).
+/// A table length that is never too short for a net of this many stages, at share 0 as at any other, once a plan of
+/// this cost is known that meets timing, such as that at share 1/4: (cost + 1) * (s + 2). At share 0 the search needs a
+/// column for each cost up to the cheapest plan's, which is no dearer; at a larger share it needs no more.
+pub fn enough_by_cost(stages: u64, cost: u64) -> Option<usize> {
+    usize::try_from(cost.checked_add(1)?.checked_mul(stages.checked_add(2)?)?).ok()
+}
+
+/// A table length with which all of r rounds are run, r from 1 to 29, once a plan of this cost is known that meets
+/// timing: (cost / 2^(29 - r) + 1) * (s + 2).
 pub fn enough_for_rounds(stages: u64, r: u64, cost: u64) -> Option<usize> {
-    let last_k = MOST_ROUNDS.checked_sub(r)?;
-    let columns = (cost >> last_k).checked_add(1)?;
-    usize::try_from(columns.checked_mul(stages.checked_add(2)?)?).ok()
+    enough_by_cost(stages, cost >> MOST_ROUNDS.checked_sub(r)?)
 }

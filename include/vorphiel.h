@@ -1,14 +1,15 @@
 /* The Vorphiel layer planner, for hosts in C and other languages.
  *
- * Every call answers for every input: there is nothing that the caller must see to beforehand, but that each pointer is valid for the length given with it
- * and that lent buffers do not overlap. Of the calls on a net each returns a refusal number, 0 if it accepts; the answer of vorphiel_report holds one. On a
- * refusal every result is 0 and no lent buffer is changed, with one exception: after 12 the table is all zero.
- * Beside what it is lent a call takes stack only: vorphiel_plan and vorphiel_plan_rounds 106 kB as measured on x86-64, vorphiel_report 174 kB, for it has a
- * table of 64 kB of its own.
- * docs/CUSTOMERS.md says all this at more length, with worked examples. The numbers are those of the scope document, 13 and 14 those of the change requests:
+ * docs/FORMAT.md lays down the bytes of a net, its timing and its cost; docs/CUSTOMERS.md says what stands here at
+ * more length, with worked examples.
+ *
+ * Every call answers for every input: there is nothing that the caller must see to beforehand, but what is said under
+ * Pointers below. Of the calls on a net each returns a refusal number, 0 if it accepts; the answer of vorphiel_report
+ * holds one. On a refusal every result is 0 and no lent buffer is changed, with one exception: after 12 the table is
+ * all zero. The numbers:
  *   1  fewer than three bytes are left where a field is due, or the payload is not all there
  *   2  a tag that is not allowed there, or a length that its kind does not have
- *   3  a number outside its range (the length of an edge is 0 to 4,000, a via resistance 0 to 1,000; docs/CUSTOMERS.md has them all)
+ *   3  a number outside its range (docs/FORMAT.md has them all)
  *   4  a 256th node after the driver, or a 64th buffer
  *   5  a bad parent: not a lower number, a sink, or one that has two children already
  *   6  a childless node that is no sink
@@ -20,6 +21,18 @@
  *  12  the table has too few columns
  *  13  bytes that are no block: more than 65,536, another tag than 6, or cut short
  *  14  the number of rounds is outside 1 to 29
+ * Where the fault of a net refused with 1 to 6 is: nets/hex.py explain FILE.
+ *
+ * Integration (docs/CUSTOMERS.md, Integration, has link lines and what was measured):
+ *   Platform  Linux on x86-64, ELF; every x86-64 processor will do. Needs memcpy and memset, and nothing else.
+ *   State     none: no data, memory, file or lock of its own. Calls may run in several threads at once if each has its
+ *             own table, plan buffer and results; what is only read they may share.
+ *   Stack     at most 178 kB for vorphiel_report, 110 kB for vorphiel_plan and vorphiel_plan_rounds, 50 kB for
+ *             vorphiel_judge and 10 kB for the others, as measured. A thread with 256 kB has room for every call.
+ *   Pointers  Each is valid for the length given with it, which is counted in entries for a table and in bytes for all
+ *             else. With length 0 it may be null. A pointer to a result is never null. Bytes need no alignment, tables
+ *             and results that of their type. What a call writes (table, plan buffer, results) overlaps nothing else
+ *             that it is given; what it only reads (net, judged plan, block) may overlap.
  */
 #ifndef VORPHIEL_H
 #define VORPHIEL_H
@@ -27,70 +40,92 @@
 #include <stddef.h>
 #include <stdint.h>
 
+/* The version of this header, 1.0.0, as one number: major * 10,000 + minor * 100 + patch. CHANGELOG.md says what each
+ * version brought. */
+#define VORPHIEL_VERSION 10000
+
 #ifdef __cplusplus
 extern "C" {
 #endif
 
-/* Reads a net, whose layers have tag 1, or tag 7 and a via resistance each. Accepted: the counts of its nodes (driver included), stages and layers. Refused
- * with 1 to 6: the first fault met. */
+/* The version of the library that is linked, counted as VORPHIEL_VERSION is. A host that wants to be sure that header
+ * and library belong together compares the two. */
+uint64_t vorphiel_version(void);
+
+/* Reads a net, whose layers have tag 1, or tag 7 and a via resistance each. Accepted: the counts of its nodes (driver
+ * included), stages and layers. Refused with 1 to 6: the first fault met. */
 uint8_t vorphiel_check(const uint8_t *net, size_t net_len, uint64_t *nodes, uint64_t *stages, uint64_t *layers);
 
-/* Judges a plan, one layer number a stage. Accepted: the plan's exact cost, and its exact slack in ticks, which may be negative; vias are counted where the net
- * has them. Refused with 1 to 6 for the net, then 7, then 8. */
-uint8_t vorphiel_judge(const uint8_t *net, size_t net_len, const uint8_t *plan, size_t plan_len, uint64_t *cost, int64_t *slack);
+/* Judges a plan, one layer number a stage. Accepted: the plan's exact cost, and its exact slack in ticks, which may be
+ * negative; vias are counted where the net has them. Refused with 1 to 6 for the net, then 7, then 8. */
+uint8_t vorphiel_judge(const uint8_t *net, size_t net_len, const uint8_t *plan, size_t plan_len,
+                       uint64_t *cost, int64_t *slack);
 
-/* Plans a net of s stages with share p/q: finds a plan that meets timing and costs at most (1 + p/q) times as much as the cheapest that does. A share of 0
- * (p = 0) gives the cheapest plan.
+/* Plans a net of s stages with share p/q: finds a plan that meets timing and costs at most (1 + p/q) times as much as
+ * the cheapest that does. A share of 0 (p = 0) gives the cheapest plan.
  *
  * Accepted:
  *   plan    its first s bytes are the plan, one layer number a stage; later bytes keep their values
  *   cost    the plan's cost, and
  *   slack   its slack in ticks, 0 or more: both as vorphiel_judge gives them
  *   k       the exponent of the grain 2^k
- *   floor   2^k times the least rounded cost of the plans of the net that meet timing; each stage's cost is divided by 2^k and rounded down
+ *   floor   2^k times the least rounded cost of the plans of the net that meet timing; each stage's cost is divided by
+ *           2^k and rounded down
  *   table   all zero, every entry
- * The floor is at most the cost of every plan of the net that meets timing, and q * cost <= (q + p) * floor. It is never above cost, so that cost - floor is no
- * less than 0, and with p = 0 it is cost. Whoever plans the same net bytes with the same p and q and is accepted gets the same cost, slack, k and floor.
+ * The floor is at most the cost of every plan of the net that meets timing, and q * cost <= (q + p) * floor. It is
+ * never above cost, so that cost - floor is no less than 0, and with p = 0 it is cost. Whoever plans the same net
+ * bytes with the same p and q and is accepted gets the same cost, slack, k and floor.
  *
- * So q * cost <= (q + p) * (the cost of every plan of the net that meets timing). Among the plans that meet timing with the least cost rounded to the grain,
- * the plan is the first in the order of stage 0's layer, then stage 1's, and so on.
+ * So q * cost <= (q + p) * (the cost of every plan of the net that meets timing). Among the plans that meet timing
+ * with the least cost rounded to the grain, the plan is the first in the order of stage 0's layer, then stage 1's,
+ * and so on.
  *
- * Refused with 1 to 6 for the net, then 9, 10, 11, 12. The plan buffer is unchanged after every refusal. The table is unchanged after 1 to 11 and all zero
- * after 12.
+ * Refused with 1 to 6 for the net, then 9, 10, 11, 12. The plan buffer is unchanged after every refusal. The table is
+ * unchanged after 1 to 11 and all zero after 12.
  *
- * The table is room to work in. Its columns are table_len / (s + 2), rounded down; 12 is given just where they are fewer than the search needs at the grain.
- * With p at least 1, a table of (s + ceil(2qs / p)) * (s + 2) entries is never too short. vorphiel_check gives s, which is 64 at most; for the shares 1/1 to
- * 1/10 vorphiel_table_entries gives the length.
+ * The table is room to work in. Its columns are table_len / (s + 2), rounded down; 12 is given just where they are
+ * fewer than the search needs at the grain. vorphiel_check gives s, which is 64 at most. Never too short is
+ *   with p at least 1, a table of (s + ceil(2qs / p)) * (s + 2) entries; for the shares 1/1 to 1/10
+ *     vorphiel_table_entries gives the length;
+ *   at every share, 0 among them, a table of (c + 1) * (s + 2) entries, if some plan that meets timing costs c. So for
+ *     the cheapest plan: plan at any share first, and lend so many entries by the cost that this gave.
  *
- * The caller need not see to what table and plan buffer hold beforehand, to their lengths, to the ranges of p and q, to p/q being in lowest terms, or to
- * whether the net can be read or any plan of it meets timing: each of these is answered by a result or by a number above. */
+ * The caller need not see to what table and plan buffer hold beforehand, to their lengths, to the ranges of p and q,
+ * to p/q being in lowest terms, or to whether the net can be read or any plan of it meets timing: each of these is
+ * answered by a result or by a number above. */
 uint8_t vorphiel_plan(const uint8_t *net, size_t net_len, uint64_t p, uint64_t q, int64_t *table, size_t table_len,
                       uint8_t *plan, size_t plan_len, uint64_t *cost, int64_t *slack, uint64_t *k, uint64_t *floor);
 
-/* Plans a net of s stages by at most r rounds, 1 to 29, and gives the cheapest plan that they found. The rounds run at k = 28, 27 and down; each finds the least
- * cost rounded to 2^k of the plans that meet timing, and the plan that vorphiel_plan gives at the grain 2^k. They end early before a k that needs more columns
- * than the table has. That is no refusal: `rounds` tells.
+/* Plans a net of s stages by at most r rounds, 1 to 29, and gives the cheapest plan that they found. The rounds run at
+ * k = 28, 27 and down; each finds the least cost rounded to 2^k of the plans that meet timing, and the plan that
+ * vorphiel_plan gives at the grain 2^k. They end early before a k that needs more columns than the table has. That is
+ * no refusal: `rounds` tells.
  *
  * Accepted:
- *   plan    its first s bytes are the cheapest plan of the rounds by true cost, that of the larger k among equals; later bytes keep their values
+ *   plan    its first s bytes are the cheapest plan of the rounds by true cost, that of the larger k among equals;
+ *           later bytes keep their values
  *   cost    the plan's cost, and
  *   slack   its slack in ticks, 0 or more: both as vorphiel_judge gives them
- *   floor   the largest, over the rounds, of 2^k times the least rounded cost: at most the cost of every plan of the net that meets timing
+ *   floor   the largest, over the rounds, of 2^k times the least rounded cost: at most the cost of every plan of the
+ *           net that meets timing
  *   rounds  how many rounds were run, 1 to r; the last at k = 29 - rounds
  *   table   all zero, every entry
- * With k of the last round, cost - floor is 0 or more and at most s * (2^k - 1). So after 29 rounds the plan is the cheapest, and floor is cost. Of two calls that
- * differ only in r, both 1 to 29, that with the larger r gives no dearer plan and no lower floor.
+ * With k of the last round, cost - floor is 0 or more and at most s * (2^k - 1). So after 29 rounds the plan is the
+ * cheapest, and floor is cost. Of two calls that differ only in r, both 1 to 29, that with the larger r gives no
+ * dearer plan and no lower floor.
  *
- * Refused with 1 to 6 for the net, then 14, 10, 11, 12; 12 just where the table has no column. Plan buffer and table are left as by vorphiel_plan.
+ * Refused with 1 to 6 for the net, then 14, 10, 11, 12; 12 just where the table has no column. Plan buffer and table
+ * are left as by vorphiel_plan.
  *
- * The columns are table_len / (s + 2), rounded down. With 2^(r - 1) columns all r rounds are run; so they are, if any plan that meets timing costs c, with
- * c / 2^(29 - r) + 1 columns. Longer tables change nothing. */
+ * The columns are table_len / (s + 2), rounded down. With 2^(r - 1) columns all r rounds are run; so they are, if any
+ * plan that meets timing costs c, with c / 2^(29 - r) + 1 columns. Longer tables change nothing. */
 uint8_t vorphiel_plan_rounds(const uint8_t *net, size_t net_len, uint64_t r, int64_t *table, size_t table_len,
-                             uint8_t *plan, size_t plan_len, uint64_t *cost, int64_t *slack, uint64_t *floor, uint64_t *rounds);
+                             uint8_t *plan, size_t plan_len, uint64_t *cost, int64_t *slack,
+                             uint64_t *floor, uint64_t *rounds);
 
-/* The wall chart of table lengths: the entries that always serve a net of s stages at share 1/q, (s + 2) * (s + 2qs), for s from 1 to 64 and q from 1 to 10. 0
- * for every other s or q: the chart has no number there. A net of s stages that is planned with share 1/q and a table of the chart's length or longer is never
- * refused with 12. */
+/* The wall chart of table lengths: the entries that always serve a net of s stages at share 1/q, (s + 2) * (s + 2qs),
+ * for s from 1 to 64 and q from 1 to 10. 0 for every other s or q: the chart has no number there. A net of s stages
+ * that is planned with share 1/q and a table of the chart's length or longer is never refused with 12. */
 uint64_t vorphiel_table_entries(uint64_t s, uint64_t q);
 
 /* The totals over the nets of a block. With refusal 13 all else is 0. */
@@ -98,22 +133,25 @@ struct vorphiel_totals {
     uint8_t refusal;      /* 13 for bytes that are no block, else 0 */
     uint64_t nets;        /* the nets of the block: those planned and those refused */
     uint64_t planned;     /* the nets that were planned */
-    uint64_t refused[13]; /* refused[r]: the nets that planning refused with r, which is 1 to 6, 11 or 12; the other entries are 0 */
+    uint64_t refused[13]; /* refused[r]: the nets that planning refused with r (1 to 6, 11, 12); other entries are 0 */
     uint64_t cost;        /* the cost of the plans found, together */
     uint64_t lengths[16]; /* lengths[l]: the total edge length on layer number l over the planned nets */
 };
 
-/* Reports over a block: plans each of its nets and gives the totals; the plans themselves are not kept. A block is a run of fields of tag 6 (the tag, two bytes
- * of payload length, payload), each with the bytes of a net as payload, 65,536 bytes in all at most. No bytes at all are a block of no nets.
+/* Reports over a block: plans each of its nets and gives the totals; the plans themselves are not kept. A block is a
+ * run of fields of tag 6 (the tag, two bytes of payload length, payload), each with the bytes of a net as payload,
+ * 65,536 bytes in all at most. No bytes at all are a block of no nets.
  *
- * Refused with 13, before any net is planned: the block is longer, has another tag or is cut short. That nets are refused is no refusal of the block: they are
- * counted in refused by their numbers and add nothing to cost and lengths. A payload of no bytes is a net refused with 1.
+ * Refused with 13, before any net is planned: the block is longer, has another tag or is cut short. That nets are
+ * refused is no refusal of the block: they are counted in refused by their numbers and add nothing to cost and
+ * lengths. A payload of no bytes is a net refused with 1.
  *
- * Each net is planned as the program plan_net does: as by vorphiel_plan with share 1/4, a table of 8,192 entries and a plan buffer of 64. So 12 is given to
- * some nets that a host can plan with a longer table.
+ * Each net is planned as the program plan_net does: as by vorphiel_plan with share 1/4, a table of 8,192 entries and a
+ * plan buffer of 64. So 12 is given to some nets of 30 stages and more that a host can plan with a longer table.
  *
- * planned and the counts in refused add up to nets; lengths add up to the wire of the planned nets, all their edge lengths; 4 times cost is at most 5 times what
- * any plans that meet timing would cost for the planned nets together. No total overflows, whatever the block holds. */
+ * planned and the counts in refused add up to nets; lengths add up to the wire of the planned nets, all their edge
+ * lengths; 4 times cost is at most 5 times what any plans that meet timing would cost for the planned nets together.
+ * No total overflows, whatever the block holds. */
 struct vorphiel_totals vorphiel_report(const uint8_t *block, size_t block_len);
 
 #ifdef __cplusplus

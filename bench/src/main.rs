@@ -5,6 +5,7 @@
 //!     vorphiel-bench --same   only whether both give the same answers, and whether the report keeps to its bound
 //!     vorphiel-bench --rounds   only the tables of planning by rounds
 //!     vorphiel-bench --blocks   only the table of the blocks
+//!     vorphiel-bench --stack   only the table of the stack that each call takes
 //!     vorphiel-bench --once   each measured call once, for callgrind; --once-rounds does so for planning by rounds, --once-blocks BYTES for blocks of at most
 //!                             so many bytes
 
@@ -21,6 +22,7 @@ use families::{Case, Shape, Size, Times, LIMITS};
 use library::MOST_ROUNDS;
 use measure::{Call, Job, Pair};
 use report::Measured;
+use std::hint::black_box;
 use std::ops::Range;
 
 /// The shares of the table.
@@ -101,13 +103,11 @@ fn measure_rounds() {
     let mut jobs = by_rounds(&cases, MOST_ROUNDS);
     compare(&mut jobs);
     let run: Vec<u64> = jobs.iter_mut().map(Job::rounds_run).collect();
-    let stack = jobs.iter_mut().map(|job| stack::bytes(job)).max().expect("a net");
     let counted = measure::instructions(&["--once-rounds"], jobs.len(), &[]);
     let measured = beside_times(counted.as_ref(), &mut jobs);
     for nets in kinds {
         report::rounds(&cases[nets.clone()], &run[nets.clone()], &measured[nets]);
     }
-    println!("Planning by rounds takes {stack} bytes of stack, at most.\n");
 }
 
 /// The table of the blocks.
@@ -115,7 +115,24 @@ fn measure_blocks() {
     let mut blocks = blocks::of_small_nets(blocks::LONGEST);
     let counted = blocks::counted(blocks::LONGEST, blocks.len());
     let measured = beside_times(counted.as_ref(), &mut blocks);
-    report::blocks(&blocks, &measured, stack::bytes(&mut blocks::deepest()));
+    report::blocks(&blocks, &measured);
+}
+
+/// The table of the stack: of each call the most, over all nets, shares and blocks.
+fn measure_stack() {
+    let (cases, _) = kinds_of_nets();
+    let most = |call| stack::most(cases.iter().map(|case| Job::new(case, call)));
+    let plan = SHARES.map(|(p, q)| most(Call::Plan { p, q }));
+    let blocks = blocks::of_small_nets(blocks::LONGEST).into_iter().chain([blocks::deepest()]);
+    report::stacks(&[
+        ("check", most(Call::Check)),
+        ("judge", most(Call::Judge)),
+        ("plan", plan.into_iter().max().expect("a share")),
+        ("plan_rounds", most(Call::Rounds { r: MOST_ROUNDS })),
+        ("table_entries", stack::bytes(&mut || _ = black_box(library::table_entries(64, 4)))),
+        ("report", stack::most(blocks)),
+        ("version", stack::bytes(&mut || _ = black_box(library::version()))),
+    ]);
 }
 
 fn main() {
@@ -125,6 +142,7 @@ fn main() {
         ["--once-rounds"] => measure::run_once(&mut by_rounds(&kinds_of_nets().0, MOST_ROUNDS)),
         ["--blocks"] => measure_blocks(),
         ["--rounds"] => measure_rounds(),
+        ["--stack"] => measure_stack(),
         asked => measure_calls(asked),
     }
 }
@@ -146,7 +164,6 @@ fn measure_calls(asked: &[&str]) {
         blocks::keep_the_bound();
         return;
     }
-    let stacks: Vec<_> = jobs.iter_mut().take(cases.len() * calls.len()).map(|job| stack::bytes(job)).collect();
     let counted = measure::instructions(&["--once"], jobs.len(), &profiled(&cases, &calls));
     let measured = beside_times(counted.as_ref(), &mut jobs);
     let (limits, grown) = measured.split_at(cases.len() * calls.len());
@@ -155,7 +172,7 @@ fn measure_calls(asked: &[&str]) {
         let rows = nets.start * calls.len()..nets.end * calls.len();
         report::ratios(&cases[nets], &calls, &limits[rows]);
     }
-    report::stacks(&calls, &stacks);
+    measure_stack();
     report::profiles(counted.map_or(vec![], |counted| counted.1));
     report::growth(&growing, grown);
     // Not with long edges: share 0 would take a table of gigabytes, as they cost millions.

@@ -97,19 +97,18 @@ fn most(values: &[f64]) -> f64 {
     values.iter().copied().fold(0.0, f64::max)
 }
 
-/// The most stack that each call takes on the nets.
-pub fn stacks(calls: &[Call], bytes: &[usize]) {
+/// The most stack that each call takes.
+pub fn stacks(rows: &[(&str, usize)]) {
     println!("| call | bytes of stack, at most |");
     println!("|---|---:|");
-    for (place, &call) in calls.iter().enumerate() {
-        let most = bytes.iter().skip(place).step_by(calls.len()).max().expect("a net");
-        println!("| {} | {most} |", name(call));
+    for (call, most) in rows {
+        println!("| `vorphiel_{call}` | {most} |");
     }
     println!();
 }
 
-/// The report over each block beside planning its nets one by one, and the stack that it takes.
-pub fn blocks(rows: &[Block], measured: &[Measured], stack: usize) {
+/// The report over each block beside planning its nets one by one.
+pub fn blocks(rows: &[Block], measured: &[Measured]) {
     println!("| block of | nets | instructions, report | one by one | factor | µs, report | one by one | factor |");
     println!("|---|---:|---:|---:|---:|---:|---:|---:|");
     for (block, row) in rows.iter().zip(measured) {
@@ -122,7 +121,6 @@ pub fn blocks(rows: &[Block], measured: &[Measured], stack: usize) {
         );
     }
     println!();
-    println!("The report takes {stack} bytes of stack, at most.");
 }
 
 /// Where the instructions of some calls go: every function that executes at least a hundredth of them.

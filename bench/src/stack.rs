@@ -23,21 +23,22 @@ extern "C" {
     fn pthread_join(thread: usize, result: *mut *mut c_void) -> c_int;
 }
 
-extern "C" fn run(pair: *mut c_void) -> *mut c_void {
-    let pair = unsafe { &mut *(pair as *mut Option<&mut dyn Pair>) };
-    if let Some(pair) = pair {
-        pair.run(0);
-    }
+/// What is done on the thread.
+type Done<'a> = &'a mut dyn FnMut();
+
+extern "C" fn run(done: *mut c_void) -> *mut c_void {
+    let done = unsafe { &mut *(done as *mut Done) };
+    done();
     std::ptr::null_mut()
 }
 
-fn used(mut pair: Option<&mut dyn Pair>) -> usize {
+fn used(mut done: Done) -> usize {
     let mut memory = vec![MARK; BYTES + 4096];
     let start = memory.as_mut_ptr().align_offset(4096);
     let stack = &mut memory[start..start + BYTES];
     unsafe {
         let (mut attributes, mut thread) = (Attributes([0; 128]), 0);
-        let with = &mut pair as *mut Option<&mut dyn Pair> as *mut c_void;
+        let with = &mut done as *mut Done as *mut c_void;
         assert_eq!(pthread_attr_init(&mut attributes), 0);
         assert_eq!(pthread_attr_setstack(&mut attributes, stack.as_mut_ptr() as *mut c_void, BYTES), 0);
         assert_eq!(pthread_create(&mut thread, &attributes, run, with), 0);
@@ -46,7 +47,12 @@ fn used(mut pair: Option<&mut dyn Pair>) -> usize {
     BYTES - stack.iter().take_while(|&&byte| byte == MARK).count()
 }
 
-/// The bytes of stack that the first way takes, that of the library, above what a thread takes that does nothing.
-pub fn bytes(pair: &mut dyn Pair) -> usize {
-    used(Some(pair)) - used(None)
+/// The bytes of stack that is used by what is done, above what a thread uses that does nothing.
+pub fn bytes(done: Done) -> usize {
+    used(done).saturating_sub(used(&mut || ()))
+}
+
+/// The most that the library's way of any of some pairs takes.
+pub fn most(pairs: impl Iterator<Item = impl Pair>) -> usize {
+    pairs.map(|mut pair| bytes(&mut || pair.run(0))).max().expect("a pair")
 }

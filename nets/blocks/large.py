@@ -36,7 +36,7 @@ def sink(parent, length, *costs, capacitance=0, required=0):
 
 
 def net_a(required=830, resistance_on_0=4, parent=0):
-    """Net A of the scope document, 57 bytes, or one like it: planned on layer 0 with cost 10 and a wire of 10."""
+    """Net A, 57 bytes, or one like it: planned on layer 0 with cost 10 and a wire of 10."""
     return layers((resistance_on_0, 1), (1, 1)) + driver(1) + sink(parent, 10, 10, 20, capacitance=5, required=required)
 
 

@@ -13,6 +13,9 @@
 //!                                     no library: writes blocks for the program block_report, each with its text
 //!     vorphiel-tests --loads DIR COUNT
 //!                                     no library: writes nets for the program try_loads, each with its text
+//!     vorphiel-tests --faults FILE COUNT
+//!                                     writes damaged nets and blocks for nets/hex.py explain, each with what the
+//!                                     library answers
 //!     --trace before these            says each call on standard error before it is made: if the library breaks off or
 //!                                     does not come back, the last one is to blame
 
@@ -60,9 +63,10 @@ fn options(mut arguments: Vec<String>) -> Option<Options> {
 
 fn main() -> ExitCode {
     let arguments: Vec<String> = std::env::args().skip(1).collect();
-    match folder_asked(&arguments) {
+    match writing_asked(&arguments) {
         Some(("--blocks", folder, count)) => return written(write_blocks(folder, count)),
         Some(("--loads", folder, count)) => return written(write_loads(folder, count)),
+        Some(("--faults", file, count)) => return written(write_faults(file, count)),
         _ => {}
     }
     if let [flag, file] = &arguments[..] {
@@ -73,7 +77,7 @@ fn main() -> ExitCode {
     let Some(options) = options(arguments) else {
         eprintln!(
             "usage: vorphiel-tests [--trace] [--mutants | --self] [SEED [COUNT]] | --blocks DIR COUNT | --loads DIR COUNT | \
-             --answers FILE"
+             --faults FILE COUNT | --answers FILE"
         );
         return ExitCode::from(2);
     };
@@ -94,10 +98,10 @@ fn ended(well: bool) -> ExitCode {
     }
 }
 
-/// --blocks DIR COUNT, --loads DIR COUNT.
-fn folder_asked(arguments: &[String]) -> Option<(&str, &str, usize)> {
+/// --blocks DIR COUNT, --loads DIR COUNT, --faults FILE COUNT.
+fn writing_asked(arguments: &[String]) -> Option<(&str, &str, usize)> {
     match arguments {
-        [flag, folder, count] => Some((flag, folder, count.parse().ok()?)),
+        [flag, to, count] => Some((flag, to, count.parse().ok()?)),
         _ => None,
     }
 }
@@ -157,14 +161,33 @@ fn write_loads(folder: &str, count: usize) -> io::Result<bool> {
     for (number, net) in nets.iter().enumerate() {
         write_input(folder, "net", number, (&net.bytes, &net.text))?;
     }
-    let (met, agreement) = (runs::loads::met(&nets), runs::loads::agreement(&nets));
-    for (words, often) in &met {
+    let agreement = runs::loads::agreement(&nets);
+    let met = all_met(&runs::loads::met(&nets), "the nets for try_loads");
+    println!("{}; {}", runs::loads::extent(&nets), agreement.as_ref().unwrap_or_else(|fault| fault));
+    Ok(met && agreement.is_ok())
+}
+
+/// Says how often each of the kinds that are due was met: all of them must be.
+fn all_met(kinds: &[(String, usize)], among: &str) -> bool {
+    for (words, often) in kinds {
         println!("{words}: {}{often}", if *often == 0 { "NOT MET: " } else { "" });
     }
-    let kinds = met.iter().filter(|(_, often)| *often > 0).count();
-    println!("{}; {}", runs::loads::extent(&nets), agreement.as_ref().unwrap_or_else(|fault| fault));
-    println!("{kinds} kinds met of {} in the nets for try_loads", met.len());
-    Ok(kinds == met.len() && agreement.is_ok())
+    let met = kinds.iter().filter(|(_, often)| *often > 0).count();
+    println!("{met} kinds met of {} in {among}", kinds.len());
+    met == kinds.len()
+}
+
+/// Writes damaged nets and blocks, a line each with what the library answers; everything that is due must be among it.
+fn write_faults(file: &str, count: usize) -> io::Result<bool> {
+    let Some(library) = linked() else {
+        eprintln!("vorphiel-tests: no library is linked");
+        return Ok(false);
+    };
+    let mut host = Host::new(library);
+    let inputs = runs::faults::for_explaining(SEED, count);
+    let lines: Vec<String> = inputs.iter().map(|input| runs::faults::line(&mut host, input)).collect();
+    fs::write(file, lines.join("\n") + "\n")?;
+    Ok(all_met(&runs::faults::met(&lines), &format!("{count} inputs for nets/hex.py explain")))
 }
 
 /// --answers FILE.

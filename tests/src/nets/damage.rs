@@ -121,6 +121,22 @@ pub fn damaged(draft: &Draft, random: &mut Random, several: usize) -> Vec<Named>
     nets
 }
 
+/// So many damaged nets of one: with a single fault, two in the same record, or several anywhere.
+pub fn some_damaged(draft: &Draft, random: &mut Random, count: usize) -> Vec<Named> {
+    let (whole, edits) = (draft.bytes(), edits(draft));
+    let single = |random: &mut Random| {
+        let (edit, mut net) = (random.pick(&edits), whole.clone());
+        edit.apply(&mut net);
+        (edit.what.clone(), net)
+    };
+    let one = |_| match random.below(4) {
+        0 => several_edits(&whole, &edits, random),
+        1 => two_edits_near(draft, &edits, random),
+        _ => single(random),
+    };
+    (0..count).map(one).collect()
+}
+
 /// Some edits anywhere, and sometimes a cut.
 fn several_edits(whole: &[u8], edits: &[Edit], random: &mut Random) -> Named {
     let mut net = whole.to_vec();

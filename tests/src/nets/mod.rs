@@ -12,7 +12,7 @@ mod times;
 pub use blocks::{block, every_line, fixed as fixed_blocks, large as large_blocks, random_block, some_net};
 pub use damage::{
     around_longest, bits_turned, changed_b, damaged, heads, layer_counts, lines_around_limits, long, rubbish,
-    scrambled, too_many, unreadable,
+    scrambled, some_damaged, too_many, unreadable,
 };
 pub use draft::{Draft, Kind, Node, LENGTH, MOST_NODES, TIME, UNIT, VIA};
 pub use grown::{at_limits, cheap, random_net, trading, LARGE_FAMILIES, SMALL_FAMILIES};

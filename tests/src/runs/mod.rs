@@ -2,6 +2,7 @@
 
 pub mod blocks;
 mod chart;
+pub mod faults;
 mod limits;
 pub mod loads;
 mod order;

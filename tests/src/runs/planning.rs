@@ -165,9 +165,13 @@ fn lengths(case: &Case, p: u64, q: u64, random: &mut Random) -> Vec<usize> {
         Some(_) => lengths.push(most_columns * (s + 2)),
         None => lengths.push(random.below(most_columns * (s + 2) / 4 + 1)),
     }
+    // Never too short: by the share, and at share 0 by the cost of a plan that meets timing.
     if p > 0 {
-        // Never too short.
         lengths.push((s + (2 * q as usize * s).div_ceil(p as usize)) * (s + 2));
+    } else if let Some(search) = case.search().filter(|search| search.any()) {
+        let columns = search.known_cost() + 1;
+        assert!(case.needed_columns(p, q).map_or(true, |needed| needed <= columns), "{}: a longer table", case.name);
+        lengths.push(columns as usize * (s + 2));
     }
     lengths.retain(|&length| length / (s + 2) <= most_columns);
     lengths

@@ -1,7 +1,7 @@
 //! Nets that cannot be read, and some beside them that can.
 
 use crate::compare::{Case, Comparison, Outcome};
-use crate::nets::{self, Random, VIA};
+use crate::nets::{self, Draft, Random, VIA};
 
 /// Judge and plan must refuse a net that cannot be read as check does, and touch nothing.
 fn all_calls(c: &mut Comparison, name: &str, bytes: &[u8], random: &mut Random) -> Outcome {
@@ -41,18 +41,23 @@ fn check_each(
     Ok(())
 }
 
-/// The same nets every time.
-pub fn fixed(c: &mut Comparison) -> Outcome {
-    let mut random = Random::new(1);
-    check_each(c, "", nets::layer_counts(), &mut random, 1)?;
-    check_each(c, "", nets::heads(), &mut random, 16)?;
-    for (of, draft) in [
+/// The nets that are tried with every damage.
+pub fn to_damage() -> [(&'static str, Draft); 5] {
+    [
         ("A, ", nets::net_a(830)),
         ("B, ", nets::net_b()),
         ("all kinds, ", nets::all_kinds()),
         ("A with vias, ", nets::net_a(830).with_vias(&[0, 2])),
         ("B with vias, ", nets::net_b().with_vias(&[VIA.1, 1])),
-    ] {
+    ]
+}
+
+/// The same nets every time.
+pub fn fixed(c: &mut Comparison) -> Outcome {
+    let mut random = Random::new(1);
+    check_each(c, "", nets::layer_counts(), &mut random, 1)?;
+    check_each(c, "", nets::heads(), &mut random, 16)?;
+    for (of, draft) in to_damage() {
         let damaged = nets::damaged(&draft, &mut random, 200);
         // A fault further on is not met.
         let rubbish =
