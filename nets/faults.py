@@ -1,9 +1,8 @@
 """The format of nets and of blocks of nets, and the first fault of bytes that do not keep to it, in words.
 
-For nets/hex.py. The tests are those of the scope document's section Reading, with lengths up to 4,000 and layers of
-tag 7, in their order: in each field head (1), tag and length (2), payload (1), then 4, 3, 5; at the end 6. Of several
-numbers in a field that are out of range, the first in the file is named. Bytes are counted from 0, and by the whole
-file in a block too.
+For nets/hex.py. The tests are those of docs/FORMAT.md, 2 and 3, in their order: in each field head (1), tag and length
+(2), payload (1), then 4, 3, 5; at the end 6. Of several numbers in a field that are out of range, the first in the file
+is named. Bytes are counted from 0, and by the whole file in a block too.
 """
 import functools
 import typing
