@@ -7,11 +7,11 @@ use mathlib.Core.List.{List, _++_, map, List·Memᴰ, Memᴰ·append-left}
 use Prim.Native.Nat.{ℕ, _+_, _*_, _-_, _/_, _^_, _≤_, _<_}
 use native.Mathlib.Omega.{arith}
 use native.Mathlib.Decide.{decLe}
-use native.Mathlib.Nat.{mul-le-mul-right, lt-of-mul-lt-mul-left, le-div-iff-mul-le}
+use native.Mathlib.Nat.{lt-of-mul-lt-mul-left, le-div-iff-mul-le}
 use lib.Dec.{leb, ltb}
 use lib.ListN.{length, getD, take, drop, length-map, length-append}
 use lib.Seq.{take-at}
-use lib.Pow.{pow-pos, pow-mono, pow-add}
+use lib.Pow.{pow-pos, pow-add}
 use lib.IntN.{ℤ}
 use borrow.Author.Tests.{le-leb, leb-false, lt-ltb, ltb-true}
 use Rattle.laws.specs.Basic.{from, leading, within}
@@ -32,7 +32,7 @@ use Rattle.oracle.specs.Rounds.{mem-due}
 use Rattle.demands.specs.StageNumbers.{treeOf}
 use Rattle.demands.specs.Same.{cost-same, value-same, first-same}
 use Rattle.demands.specs.Plans.{plan-length, some-plan-iff}
-use Rattle.demands.specs.Values.{least-top, grain-below, grain-small}
+use Rattle.demands.specs.Values.{finer-floor, least-top, grain-below, grain-small}
 use Rattle.demands.specs.Columns.{columns-lent}
 use Rattle.demands.specs.Demand2.{chosen-some, chosen-is}
 use Rattle.demands.specs.RoundsCall.{rounds-in, rounds-numbered, rounds-unread, rounds-14, rounds-10, rounds-11, rounds-12, rounds-pass}
@@ -131,11 +131,11 @@ chosen-near {n} A k z e =
 
 -- 2^(r − 1) columns are enough for each k of r rounds, because 2^k × V(k) is below 2^28.
 few-columns : {n : Net} → Accepted n → (r : ℕ) → 1 ≤ r → r ≤ maxRounds → (k : ℕ) → lastRun r ≤ k → leastRounded n k < 2 ^ (r - 1)
-unfolding lastRun floor
+unfolding lastRun
 few-columns {n} A r one top k due =
     let e : maxExponent ≡ lastRun r + (r - 1) = omega arith in
     let parts : 2 ^ maxExponent ≡ 2 ^ lastRun r * 2 ^ (r - 1) = ap (λ (i : ℕ). 2 ^ i) e ∙ pow-add 2 (lastRun r) (r - 1) in
-    let less : 2 ^ lastRun r * leastRounded n k < 2 ^ maxExponent = omega (arith, mul-le-mul-right (leastRounded n k) (pow-mono due), grain-small A k) in
+    let less : 2 ^ lastRun r * leastRounded n k < 2 ^ maxExponent = omega (arith, finer-floor n due, grain-small A k) in
     lt-of-mul-lt-mul-left (2 ^ lastRun r) (rw parts at less)
 
 -- The answer for a plan.
@@ -381,12 +381,11 @@ all-rounds-exact bs r table buffer all-run = start (read bs) refl
 pub rounds-by-cost : (bs : List ℕ) (r : ℕ) (table : List ℤ) (buffer : List ℕ) (n : Net) → read bs ≡ accept n → 1 ≤ r → r ≤ maxRounds → stages n ≤ length buffer
     → (y : List ℕ) → isPlan n y ≡ true → meets n y ≡ true → (cost n y / 2 ^ lastRun r + 1) * (stages n + 2) ≤ length table
     → (planRounds bs r table buffer .refusal ≡ 0) × (planRounds bs r table buffer .rounds ≡ r)
-unfolding floor
 rounds-by-cost bs r table buffer n h one top room y plan in-time enough =
     all-fit bs r table buffer h one top room (y, plan, in-time) (cost n y / 2 ^ lastRun r + 1) enough fit
   where
     fit : (k : ℕ) → lastRun r ≤ k → leastRounded n k < cost n y / 2 ^ lastRun r + 1
     fit k due =
         let less : leastRounded n k * 2 ^ lastRun r ≤ cost n y =
-        omega (arith, mul-le-mul-right (leastRounded n k) (pow-mono due), grain-below (accepted bs n h) k y plan in-time) in
+        omega (arith, finer-floor n due, grain-below (accepted bs n h) k y plan in-time) in
         omega (arith, le-div-iff-mul-le {k = 2 ^ lastRun r} (pow-pos (lastRun r)) .1 less)

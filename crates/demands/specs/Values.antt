@@ -6,9 +6,10 @@ use mathlib.Core.List.{List, [], _∷_}
 use Prim.Native.Nat.{ℕ, _*_, _-_, _^_, _≤_, _<_}
 use native.Mathlib.Omega.{arith}
 use native.Mathlib.Decide.{decLe}
-use native.Mathlib.Nat.{mul-le-mul}
+use native.Mathlib.Nat.{mul-le-mul, mul-le-mul-right}
 use lib.Dec.{ltb}
 use lib.ListN.{length}
+use lib.Pow.{pow-mono}
 use borrow.Author.Tests.{ltb-false, le-leb, lt-leb}
 use Rattle.laws.specs.Basic.{sum, lowest}
 use Rattle.laws.specs.Extremes.{largest-passes, largest-le}
@@ -46,6 +47,11 @@ grain-qualifies n p q = largest-passes (qualifies n p q) maxExponent (zero-quali
 pub grain-most : (n : Net) (p q : ℕ) → grainExponent n p q ≤ maxExponent
 unfolding grainExponent
 grain-most n p q = largest-le (qualifies n p q) maxExponent
+
+-- Taken for as many grains of a smaller size, V(k) is no more than the floor at k.
+pub finer-floor : (n : Net) {j k : ℕ} → j ≤ k → 2 ^ j * leastRounded n k ≤ floor n k
+unfolding floor
+finer-floor n {k = k} h = mul-le-mul-right (leastRounded n k) (pow-mono h)
 
 module _ {n : Net} (A : Accepted n) where
   -- What holds where a plan meets timing, and where V(k) is 0 for every k, holds.

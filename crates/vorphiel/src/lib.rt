@@ -1,4 +1,5 @@
-// The open calls of the layer planner. Each answers for every input; each contract is one equation with the rules of documents 01 and 02.
+// The open calls of the layer planner. Each answers for every input; each contract opens with one equation: with the rules of documents 01 and 02, or, of the
+// version, with its own definition.
 use calls::planned;
 use calls::planned_rounds;
 use reader::Net;
@@ -111,7 +112,8 @@ pub extern "C" fn vorphiel_judge(net: &[u8], plan: &[u8], cost: &mut u64, slack:
 
 // Planning (01, Planning) with share p/q: the plan chosen into the first bytes of `buffer`, its cost and slack, k of the grain and the floor g × V(k) (02, wish
 // 6); or a refusal number and zeros. The clauses: all that it answers and leaves is what the definition says; demand 2 for planning; demand 3, whole. What the
-// floor is good for follows from the definition: `floor-promise` in crates/demands/specs/Floor.antt.
+// floor is good for follows from the definition: `floor-promise` in crates/demands/specs/Floor.antt; how long a table serves by the cost of a plan that is
+// known, at share 0 too: `plan-by-cost` in Exact.antt beside it.
 pub fn plan(net: &[u8], p: u64, q: u64, table: &mut [i64], buffer: &mut [u8]) -> Planned
     ensures { λ r. ⌜ planAnswer r (now (buffer .exit)) (now (table .exit)) ≡ plan (now (net .entry)) p q (now (table .entry)) (now (buffer .entry)) ⌝ }
     ensures { λ r. ⌜ Demand2 (now (net .entry)) p q (now (table .entry)) (now (buffer .entry)) (now (buffer .exit)) r ⌝ }
