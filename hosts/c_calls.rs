@@ -84,6 +84,63 @@ c_calls! {
 
     /// Reports over a block.
     Report = vorphiel_report(block: *const u8, block_len: usize) -> Totals;
+
+    /// The size of a desk in bytes.
+    DeskSize = vorphiel_desk_size() -> u64;
+
+    /// Opens a desk.
+    DeskOpen = vorphiel_desk_open(desk: *mut DeskRecord, net: *const u8, net_len: usize) -> DeskCounts;
+
+    /// Moves a stage of a desk to a layer. The answer is a refusal's number, 0 if there is none; so also in `DeskLock` and `DeskUnlock`.
+    DeskSet = vorphiel_desk_set(desk: *mut DeskRecord, stage: u64, layer: u64) -> u8;
+
+    /// Locks a stage of a desk.
+    DeskLock = vorphiel_desk_lock(desk: *mut DeskRecord, stage: u64) -> u8;
+
+    /// Unlocks a stage of a desk.
+    DeskUnlock = vorphiel_desk_unlock(desk: *mut DeskRecord, stage: u64) -> u8;
+
+    /// Reads the cost and slack of a desk's plan.
+    DeskRead = vorphiel_desk_read(desk: *const DeskRecord) -> DeskFigures;
+}
+
+/// The most bytes of a net that a desk takes.
+pub const MOST_DESK_NET: usize = 4_096;
+
+/// A desk's record, `struct vorphiel_desk` in C: all zero is a desk never opened.
+#[repr(C)]
+#[derive(Clone, Copy, Debug, PartialEq, Eq)]
+pub struct DeskRecord {
+    pub used: u64,
+    pub stages: u64,
+    pub layers: u64,
+    pub net: [u8; MOST_DESK_NET],
+    pub plan: [u8; 64],
+    pub locks: [u8; 64],
+}
+
+impl DeskRecord {
+    /// A desk never opened.
+    pub const FRESH: DeskRecord = DeskRecord { used: 0, stages: 0, layers: 0, net: [0; MOST_DESK_NET], plan: [0; 64], locks: [0; 64] };
+}
+
+/// The counts of a net that was opened, `struct vorphiel_checked` in C.
+#[repr(C)]
+#[derive(Clone, Copy, Debug, Default, PartialEq, Eq)]
+pub struct DeskCounts {
+    pub refusal: u8,
+    pub nodes: u64,
+    pub stages: u64,
+    pub layers: u64,
+}
+
+/// The cost and slack of a desk's plan, `struct vorphiel_judged` in C.
+#[repr(C)]
+#[derive(Clone, Copy, Debug, Default, PartialEq, Eq)]
+pub struct DeskFigures {
+    pub refusal: u8,
+    pub cost: u64,
+    pub slack: i64,
 }
 
 /// The totals over the nets of a block, `struct vorphiel_totals` in C.

@@ -1,5 +1,6 @@
 /* What the hosts in C share: their arguments, the bytes of a file or of standard input, the library's version, and
- * what is said on standard error. A host defines HOST, its own name, before it includes this file. */
+ * what is said on standard error. A host defines HOST, its own name, before it includes this file. What not every host
+ * uses is inline, so that no compiler warns of it. */
 #ifndef HOST_H
 #define HOST_H
 
@@ -8,6 +9,7 @@
 #include <errno.h>
 #include <inttypes.h>
 #include <stdio.h>
+#include <stdlib.h>
 #include <string.h>
 
 /* The exit statuses. */
@@ -24,6 +26,9 @@ struct input {
     size_t len;
     uint8_t at[MOST_BYTES];
 };
+
+/* The tag with which a block begins. */
+enum { BLOCK_TAG = 6 };
 
 /* The arguments that are no options; NULL where there is none. */
 enum { MOST_GIVEN = 3 };
@@ -50,6 +55,9 @@ static const char *refusal_words(uint8_t refusal)
         "the table has too few columns; lend a longer one, or ask for a larger share",
         "no block: more than 65,536 bytes, a field of another tag than 6, or cut short",
         "the number of rounds is outside 1 to 29",
+        "a net above 4,096 bytes, the most that a desk takes",
+        "the desk was never opened",
+        "the stage is locked",
     };
     return refusal < sizeof WORDS / sizeof WORDS[0] ? WORDS[refusal] : "a refusal that this host does not know";
 }
@@ -114,7 +122,7 @@ static int is_answered(int count, char **arguments, const char *help)
 }
 
 /* Takes an argument that is none of the host's options, as the next of at most `most`. */
-static int take(const char *argument, int most, struct given *given)
+static inline int take(const char *argument, int most, struct given *given)
 {
     if (argument[0] == '-' && argument[1] != '\0') {
         fprintf(stderr, HOST ": %s: no such option; see " HOST " --help (a file of this name is given as ./%s)\n",
@@ -127,26 +135,54 @@ static int take(const char *argument, int most, struct given *given)
     return 0;
 }
 
-static int no_file(void)
+static inline int no_file(void)
 {
     fputs(HOST ": no file is given; see " HOST " --help\n", stderr);
     return NOT_TRIED;
 }
 
-/* Reads a file, or standard input for -. */
-static int read_input(const char *argument, struct input *input)
+/* Reads a file, or standard input: 0, or the number of the error, as errno has it. */
+static int read_bytes(const char *argument, int is_standard, struct input *input)
 {
-    input->is_standard = strcmp(argument, "-") == 0;
+    input->is_standard = is_standard;
     input->argument = argument;
-    input->name = input->is_standard ? "standard input" : argument;
-    FILE *file = input->is_standard ? stdin : fopen(argument, "rb");
+    input->name = is_standard ? "standard input" : argument;
+    FILE *file = is_standard ? stdin : fopen(argument, "rb");
     if (file == NULL)
-        return not_tried(input->name, strerror(errno));
+        return errno;
     input->len = fread(input->at, 1, sizeof input->at, file);
-    int fault = ferror(file) ? not_tried(input->name, strerror(errno)) : 0;
-    if (!input->is_standard)
+    int error = ferror(file) ? errno : 0;
+    if (!is_standard)
         fclose(file);
-    return fault;
+    return error;
+}
+
+/* Reads a file, or standard input for -, and says if it cannot. */
+static inline int read_input(const char *argument, struct input *input)
+{
+    int error = read_bytes(argument, strcmp(argument, "-") == 0, input);
+    return error == 0 ? 0 : not_tried(input->name, strerror(error));
+}
+
+/* Reads a number of 64 bits at the front of a text, digits only, as strtoull alone also takes signs and spaces: the
+ * text after it, or NULL if there is none. */
+static inline const char *after_number(const char *text, uint64_t *value)
+{
+    if (text == NULL || *text < '0' || *text > '9')
+        return NULL;
+    char *rest;
+    errno = 0;
+    unsigned long long number = strtoull(text, &rest, 10);
+    if (errno != 0 || number > UINT64_MAX)
+        return NULL;
+    *value = number;
+    return rest;
+}
+
+static inline int is_number(const char *text, uint64_t *value)
+{
+    const char *rest = after_number(text, value);
+    return rest != NULL && *rest == '\0';
 }
 
 /* Whether a byte is printable ASCII or white space: a tab, a new line, a new page or their like. */
@@ -182,6 +218,22 @@ static void say_fault(const struct input *input, uint8_t refusal)
 {
     say(input->name, refusal_words(refusal));
     fprintf(stderr, HOST ": nets/hex.py explain %s says where\n", input->argument);
+}
+
+/* Says why bytes are no net, or none for a desk (15), and what to do: perhaps they are text, or a block. */
+static inline void say_no_net(const struct input *net, uint8_t refusal)
+{
+    if (looks_like_text(net)) {
+        say(net->name, "looks like text, and a net is bytes");
+        say_command("to make them", "bytes", net, "net");
+    } else if (net->len > 0 && net->at[0] == BLOCK_TAG) {
+        say(net->name, "begins with tag 6, as a block of nets does, and a net with 1 or 7");
+        fprintf(stderr, HOST ": report_file %s reports over a block\n", net->argument);
+    } else if (refusal <= 6) {
+        say_fault(net, refusal);
+    } else {
+        say(net->name, refusal_words(refusal));
+    }
 }
 
 #endif

@@ -6,8 +6,6 @@
 #define HOST "plan_file"
 #include "host.h"
 
-#include <stdlib.h>
-
 static const char HELP[] =
     "usage: plan_file NET [SHARE]\n"
     "       plan_file --rounds R NET\n"
@@ -40,9 +38,6 @@ static const char HELP[] =
 
 enum { MOST_STAGES = 64, MOST_SHARE = 1000, MOST_ROUNDS = 29 };
 
-/* The tag with which a block begins. */
-enum { BLOCK_TAG = 6 };
-
 /* The columns of a small table, for the first call with rounds. */
 enum { FEW_COLUMNS = 64 };
 
@@ -67,27 +62,6 @@ struct planned {
     uint64_t cost, k, floor, rounds;
     int64_t slack;
 };
-
-/* Reads a number of 64 bits at the front of a text, digits only, as strtoull alone also takes signs and spaces: the
- * text after it, or NULL if there is none. */
-static const char *after_number(const char *text, uint64_t *value)
-{
-    if (text == NULL || *text < '0' || *text > '9')
-        return NULL;
-    char *rest;
-    errno = 0;
-    unsigned long long number = strtoull(text, &rest, 10);
-    if (errno != 0 || number > UINT64_MAX)
-        return NULL;
-    *value = number;
-    return rest;
-}
-
-static int is_number(const char *text, uint64_t *value)
-{
-    const char *rest = after_number(text, value);
-    return rest != NULL && *rest == '\0';
-}
 
 /* Whether one argument is a share such as 1/4, or two are. */
 static int is_share(const char *first, const char *second, struct asked *asked)
@@ -221,20 +195,6 @@ static int plan_by_rounds(const struct input *net, uint64_t s, const struct aske
         return fault;
     uint64_t entries = enough_by_cost(s, answer->cost >> (MOST_ROUNDS - asked->r));
     return plan_with(net, asked, entries < MOST_ENTRIES ? entries : MOST_ENTRIES, answer);
-}
-
-/* Says why bytes are no net, and what to do: perhaps they are text, or a block. */
-static void say_no_net(const struct input *net, uint8_t refusal)
-{
-    if (looks_like_text(net)) {
-        say(net->name, "looks like text, and a net is bytes");
-        say_command("to make them", "bytes", net, "net");
-    } else if (net->len > 0 && net->at[0] == BLOCK_TAG) {
-        say(net->name, "begins with tag 6, as a block of nets does, and a net with 1 or 7");
-        fprintf(stderr, HOST ": report_file %s reports over a block\n", net->argument);
-    } else {
-        say_fault(net, refusal);
-    }
 }
 
 static void print_refusal(const struct input *net, const struct asked *asked, uint8_t refusal)

@@ -8,6 +8,7 @@
 mod c_calls;
 
 use c_calls::{Check, Judge, Plan, PlanRounds, Report, TableEntries, Version};
+use c_calls::{DeskLock, DeskOpen, DeskRead, DeskRecord, DeskSet, DeskUnlock};
 use std::fmt;
 
 pub use c_calls::Totals;
@@ -22,7 +23,7 @@ pub const MOST_SHARE: u64 = 1_000;
 /// The most rounds: one for each k from 28 down to 0.
 pub const MOST_ROUNDS: u64 = 29;
 
-/// A refusal by its number, 1 to 14; shown in words.
+/// A refusal by its number, 1 to 17; shown in words.
 #[derive(Clone, Copy, Debug, PartialEq, Eq)]
 pub struct Refusal(pub u8);
 
@@ -35,7 +36,7 @@ impl fmt::Display for Refusal {
             4 => "a 256th node after the driver, or a 64th buffer",
             5 => "a bad parent: not a lower number, a sink, or one that has two children already",
             6 => "a childless node that is no sink",
-            7 => "the plan's length is not the number of stages",
+            7 => "the plan's length is not the number of stages; on a desk, a stage number that is not below it",
             8 => "a layer number that is not below the layer count",
             9 => "the share is out of range: P is at most 1,000 and Q is 1 to 1,000",
             10 => "the plan buffer is shorter than the number of stages",
@@ -43,6 +44,9 @@ impl fmt::Display for Refusal {
             12 => "the table has too few columns; lend a longer one, or ask for a larger share",
             13 => "no block: more than 65,536 bytes, a field of another tag than 6, or cut short",
             14 => "the number of rounds is outside 1 to 29",
+            15 => "a net above 4,096 bytes, the most that a desk takes",
+            16 => "the desk was never opened",
+            17 => "the stage is locked",
             _ => "a refusal that this host does not know",
         })
     }
@@ -174,6 +178,82 @@ pub fn report(block: &[u8]) -> Result<Totals, Refusal> {
     // SAFETY: as in `check`; the answer comes by value.
     let totals = unsafe { Report { block: block.as_ptr(), block_len: block.len() }.make() };
     accepted(totals.refusal, totals)
+}
+
+/// A desk for hand changes: a copy of a net, a plan and a lock for each stage. A new one was never opened. A refused call keeps it as it was. It is plain data: a
+/// clone is a desk by itself, and assigning an earlier clone puts that back.
+#[derive(Clone)]
+pub struct Desk(DeskRecord);
+
+impl Default for Desk {
+    fn default() -> Desk {
+        Desk(DeskRecord::FRESH)
+    }
+}
+
+impl Desk {
+    /// Opens the desk with a net, of which it takes a copy: every stage is on layer 0, unlocked. What was on the desk is gone. Refusals: 15, 1 to 6.
+    pub fn open(&mut self, net: &[u8]) -> Result<Counts, Refusal> {
+        // SAFETY: the desk is lent by `&mut`, so that nobody else sees it during the call, and the net is apart from it; the net as in `check`; the answer
+        // comes by value.
+        let found = unsafe { DeskOpen { desk: &mut self.0, net: net.as_ptr(), net_len: net.len() }.make() };
+        accepted(found.refusal, Counts { nodes: found.nodes, stages: found.stages, layers: found.layers })
+    }
+
+    /// Moves a stage to a layer. Refusals: 16, 7, 8, 17; the last also where the stage is on that layer already.
+    pub fn set(&mut self, stage: u64, layer: u64) -> Result<(), Refusal> {
+        // SAFETY: the desk as in `open`.
+        let refusal = unsafe { DeskSet { desk: &mut self.0, stage, layer }.make() };
+        accepted(refusal, ())
+    }
+
+    /// Locks a stage, so that it cannot be set; one that is locked stays so. Refusals: 16, 7.
+    pub fn lock(&mut self, stage: u64) -> Result<(), Refusal> {
+        // SAFETY: the desk as in `open`.
+        let refusal = unsafe { DeskLock { desk: &mut self.0, stage }.make() };
+        accepted(refusal, ())
+    }
+
+    /// Unlocks a stage; one that is unlocked stays so. Refusals: 16, 7.
+    pub fn unlock(&mut self, stage: u64) -> Result<(), Refusal> {
+        // SAFETY: the desk as in `open`.
+        let refusal = unsafe { DeskUnlock { desk: &mut self.0, stage }.make() };
+        accepted(refusal, ())
+    }
+
+    /// The cost and slack of the plan on the desk, as `judge` gives them. Refusal: 16.
+    pub fn read(&self) -> Result<Judged, Refusal> {
+        // SAFETY: the desk is lent by `&`, and the call only reads it; the answer comes by value.
+        let found = unsafe { DeskRead { desk: &self.0 }.make() };
+        accepted(found.refusal, Judged { cost: found.cost, slack: found.slack })
+    }
+
+    /// How many stages the net on the desk has; 0 if the desk was never opened.
+    pub fn stages(&self) -> u64 {
+        self.0.stages
+    }
+
+    /// How many layers the net on the desk has; 0 if the desk was never opened.
+    pub fn layers(&self) -> u64 {
+        self.0.layers
+    }
+
+    /// The plan on the desk, one layer number a stage; empty if the desk was never opened.
+    pub fn plan(&self) -> &[u8] {
+        &self.0.plan[..self.0.stages as usize]
+    }
+
+    /// Whether the desk has a stage of this number, and it is locked.
+    pub fn is_locked(&self, stage: u64) -> bool {
+        stage < self.0.stages && self.0.locks[stage as usize] != 0
+    }
+}
+
+impl fmt::Debug for Desk {
+    fn fmt(&self, f: &mut fmt::Formatter) -> fmt::Result {
+        let locked: Vec<u64> = (0..self.stages()).filter(|&stage| self.is_locked(stage)).collect();
+        f.debug_struct("Desk").field("layers", &self.layers()).field("plan", &self.plan()).field("locked", &locked).finish()
+    }
 }
 
 /// The wall chart's number: the entries that always serve a net of this many stages, 1 to 64, at share 1/q, q from 1 to 10. None where the chart has none.

@@ -4,16 +4,16 @@
  * more length, with worked examples.
  *
  * Every call answers for every input: there is nothing that the caller must see to beforehand, but what is said under
- * Pointers below. Of the calls on a net each returns a refusal number, 0 if it accepts; the answer of vorphiel_report
- * holds one. On a refusal every result is 0 and no lent buffer is changed, with one exception: after 12 the table is
- * all zero. The numbers:
+ * Pointers below. Each call on a net, a block or a desk returns a refusal number, 0 if it accepts, or a struct that
+ * holds one. On a refusal every result is 0 and nothing lent is changed, with one exception: after 12 the table is all
+ * zero. The numbers:
  *   1  fewer than three bytes are left where a field is due, or the payload is not all there
  *   2  a tag that is not allowed there, or a length that its kind does not have
  *   3  a number outside its range (docs/FORMAT.md has them all)
  *   4  a 256th node after the driver, or a 64th buffer
  *   5  a bad parent: not a lower number, a sink, or one that has two children already
  *   6  a childless node that is no sink
- *   7  the plan's length is not the number of stages
+ *   7  the plan's length is not the number of stages; on a desk, a stage number that is not below it
  *   8  a layer number that is not below the layer count
  *   9  p above 1,000, or q outside 1 to 1,000
  *  10  the plan buffer is shorter than the number of stages
@@ -21,18 +21,22 @@
  *  12  the table has too few columns
  *  13  bytes that are no block: more than 65,536, another tag than 6, or cut short
  *  14  the number of rounds is outside 1 to 29
+ *  15  a net above 4,096 bytes, for a desk
+ *  16  a desk that was never opened
+ *  17  setting a stage that is locked
  * Where the fault of a net refused with 1 to 6 is: nets/hex.py explain FILE.
  *
  * Integration (docs/CUSTOMERS.md, Integration, has link lines and what was measured):
  *   Platform  Linux on x86-64, ELF; every x86-64 processor will do. Needs memcpy and memset, and nothing else.
  *   State     none: no data, memory, file or lock of its own. Calls may run in several threads at once if each has its
- *             own table, plan buffer and results; what is only read they may share.
+ *             own table, plan buffer, desk and results; what is only read they may share.
  *   Stack     at most 178 kB for vorphiel_report, 110 kB for vorphiel_plan and vorphiel_plan_rounds, 50 kB for
  *             vorphiel_judge and 10 kB for the others, as measured. A thread with 256 kB has room for every call.
  *   Pointers  Each is valid for the length given with it, which is counted in entries for a table and in bytes for all
  *             else. With length 0 it may be null. A pointer to a result is never null. Bytes need no alignment, tables
- *             and results that of their type. What a call writes (table, plan buffer, results) overlaps nothing else
- *             that it is given; what it only reads (net, judged plan, block) may overlap.
+ *             and results that of their type. A pointer to a desk is never null; VORPHIEL_DESK_ALIGNMENT is its
+ *             alignment. What a call writes (table, plan buffer, results, desk) overlaps nothing else that it is
+ *             given; what it only reads (net, judged plan, block) may overlap.
  */
 #ifndef VORPHIEL_H
 #define VORPHIEL_H
@@ -40,9 +44,9 @@
 #include <stddef.h>
 #include <stdint.h>
 
-/* The version of this header, 1.0.0, as one number: major * 10,000 + minor * 100 + patch. CHANGELOG.md says what each
+/* The version of this header, 1.1.0, as one number: major * 10,000 + minor * 100 + patch. CHANGELOG.md says what each
  * version brought. */
-#define VORPHIEL_VERSION 10000
+#define VORPHIEL_VERSION 10100
 
 #ifdef __cplusplus
 extern "C" {
@@ -153,6 +157,65 @@ struct vorphiel_totals {
  * lengths; 4 times cost is at most 5 times what any plans that meet timing would cost for the planned nets together.
  * No total overflows, whatever the block holds. */
 struct vorphiel_totals vorphiel_report(const uint8_t *block, size_t block_len);
+
+/* A desk for hand changes: a copy of a net, a plan and a lock for each stage, in one record that the host lends and
+ * the calls alter there. Cleared memory (every byte 0, as memset leaves it) is a desk never opened. It holds no
+ * pointers: a host may copy it, move it, and put an earlier copy back; each copy is a desk by itself, for libraries of
+ * the same version.
+ *
+ * A host may look at it. stages and layers are the counts of the net, 0 on a desk never opened; for each stage t below
+ * stages, plan[t] is its layer, and locks[t] is 1 if it is locked, else 0; used and net are the bytes of the net. Only
+ * the calls should write there. What is said below is said of a desk that was cleared, and that only these calls
+ * altered since. Whatever else a host wrote there, no call reads or writes beyond the desk, and each answers with
+ * results, or with one of 1 to 8 and 15 to 17, with zeros, and leaves the desk as it was.
+ *
+ * A host in another language lends vorphiel_desk_size() bytes, at an address that is a multiple of the alignment. */
+#define VORPHIEL_DESK_SIZE 4248
+#define VORPHIEL_DESK_ALIGNMENT 8
+
+struct vorphiel_desk {
+    uint64_t used;
+    uint64_t stages;
+    uint64_t layers;
+    uint8_t net[4096];
+    uint8_t plan[64];
+    uint8_t locks[64];
+};
+
+/* The counts of a net, as vorphiel_check gives them; 0 with a refusal. */
+struct vorphiel_checked {
+    uint8_t refusal;
+    uint64_t nodes;
+    uint64_t stages;
+    uint64_t layers;
+};
+
+/* The cost and slack of a plan, as vorphiel_judge gives them; 0 with a refusal. */
+struct vorphiel_judged {
+    uint8_t refusal;
+    uint64_t cost;
+    int64_t slack;
+};
+
+/* The size of a desk in bytes, VORPHIEL_DESK_SIZE of the library that is linked. */
+uint64_t vorphiel_desk_size(void);
+
+/* Opens a desk: copies the net and puts every stage on layer 0, unlocked. An open desk is replaced. Refused with 15,
+ * before the bytes are looked at, then with 1 to 6; the desk is then as it was. */
+struct vorphiel_checked vorphiel_desk_open(struct vorphiel_desk *desk, const uint8_t *net, size_t net_len);
+
+/* Moves a stage to a layer. Refused with 16, then 7 for a stage number that is not below the number of stages, then 8
+ * for the layer, then 17, also where the locked stage is on that layer already; the desk is then as it was. */
+uint8_t vorphiel_desk_set(struct vorphiel_desk *desk, uint64_t stage, uint64_t layer);
+
+/* Locks a stage, so that it cannot be set, or unlocks it; a stage that is so already stays so. Refused with 16, then
+ * 7; the desk is then as it was. */
+uint8_t vorphiel_desk_lock(struct vorphiel_desk *desk, uint64_t stage);
+uint8_t vorphiel_desk_unlock(struct vorphiel_desk *desk, uint64_t stage);
+
+/* Reads the cost and slack of the net and the plan on the desk: what vorphiel_judge gives for them. Refused with 16.
+ * The desk is not altered. */
+struct vorphiel_judged vorphiel_desk_read(const struct vorphiel_desk *desk);
 
 #ifdef __cplusplus
 }

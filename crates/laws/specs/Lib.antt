@@ -1,6 +1,7 @@
 pub mod Basic
 pub mod Booleans
 pub mod Lists
+pub mod Entries
 pub mod First
 pub mod Counting
 pub mod Sums

@@ -1,6 +1,7 @@
--- 01, 'Nets to try', the rows marked †, with their floors (02, wish 6), lengths (02, wish 3), vias (02, wish 5), rounds (02, wish 7) and blocks to try (02,
--- wish 2): lists of inputs and results, and one proof that settles them against the rules.
+-- 01, 'Nets to try', the rows marked †, with their floors (02, wish 6), lengths (02, wish 3), vias (02, wish 5), rounds (02, wish 7), blocks (02, wish 2)
+-- and runs of calls on a desk (02, wish 8) to try: lists of inputs and results, and one proof that settles them against the rules.
 use mathlib.Core.Bool.{Bool, true, false, _&&_}
+use mathlib.Core.Option.{none}
 use mathlib.Core.List.{List, [], _∷_, _++_, map}
 use Prim.Native.Nat.{ℕ, zero, suc, _+_, _*_, _/_, _^_, _%_}
 use lib.Dec.{T, eqb}
@@ -26,6 +27,8 @@ use Rattle.rules.specs.Text.{ascii}
 use Rattle.rules.specs.Program
 use Rattle.rules.specs.Block
 use Rattle.rules.specs.Block.{reportText}
+use Rattle.rules.specs.Desk
+use Rattle.rules.specs.Desk.{Call, toOpen, toSet, toLock, toUnlock, toRead, Reply, countsReply, numberReply, figuresReply, replies}
 
 -- A number in w bytes, most significant first.
 abbrev pub bytes : ℕ → ℕ → List ℕ
@@ -131,6 +134,8 @@ pub data Row : Type 0 where
   RefusesRounds : List ℕ → ℕ → ℕ → ℕ → ℕ → Row
   -- reported: block; text
   Reports : List ℕ → List ℕ → Row
+  -- called on a fresh desk, one call after the other: each with the numbers of its reply
+  Calls : List (Call × List ℤ) → Row
 
 -- A plan buffer of so many bytes and a table, with something in them beforehand.
 abbrev pub usedBytes : ℕ → List ℕ
@@ -164,6 +169,32 @@ answersRounds a r c s f m buffer table =
 abbrev pub refusedTable : ℕ → ℕ → List ℤ
 refusedTable r m = Basic.if_then_else_ (eqb r 12) (replicate m (pos 0)) (usedTable m)
 
+-- The numbers of a reply: of an opening the refusal and three counts, of a change the refusal, of a reading the refusal, cost and slack.
+abbrev pub replyNumbers : Reply → List ℤ
+replyNumbers (countsReply c) = pos (c .refusal) ∷ pos (c .nodes) ∷ pos (c .stages) ∷ pos (c .layers) ∷ []
+replyNumbers (numberReply r) = pos r ∷ []
+replyNumbers (figuresReply j) = pos (j .refusal) ∷ pos (j .cost) ∷ j .slack ∷ []
+
+-- An opening, with the counts of nodes, stages and layers.
+abbrev pub opens : List ℕ → ℕ → ℕ → ℕ → Call × List ℤ
+opens net i s l = (toOpen net, pos 0 ∷ pos i ∷ pos s ∷ pos l ∷ [])
+
+-- An opening that is refused, with its number.
+abbrev pub opensNot : List ℕ → ℕ → Call × List ℤ
+opensNot net r = (toOpen net, pos r ∷ pos 0 ∷ pos 0 ∷ pos 0 ∷ [])
+
+-- A change, with the number that it gives.
+abbrev pub gives : Call → ℕ → Call × List ℤ
+gives c r = (c, pos r ∷ [])
+
+-- A reading, with cost and slack.
+abbrev pub reads : ℕ → ℤ → Call × List ℤ
+reads c s = (toRead, pos 0 ∷ pos c ∷ s ∷ [])
+
+-- A reading that is refused, with its number.
+abbrev pub readsNot : ℕ → Call × List ℤ
+readsNot r = (toRead, pos r ∷ pos 0 ∷ pos 0 ∷ [])
+
 -- A row holds.
 abbrev pub holds : Row → Bool
 holds (Checks bs r i s l) =
@@ -176,6 +207,7 @@ holds (PlansRounds bs r m x c s f i) =
 holds (RefusesRounds bs r m room t) =
     answersRounds (planRounds bs r (usedTable m) (usedBytes room)) t 0 (pos 0) 0 0 (usedBytes room) (refusedTable t m)
 holds (Reports bs text) = same eqb (reportText bs) text
+holds (Calls cs) = same (same sameZ) (map replyNumbers (replies none (map (λ c. c .0) cs))) (map (λ c. c .1) cs)
 
 -- The rows, in the order of 01. Where 01 names no table, it has 200 entries. Floors: net B has V(3) = 3 and V(4) = 1, by the plans of cost 32 (20 and 12)
 -- and 35 (10 and 25); at share 0 the floor is the cost.
@@ -272,7 +304,58 @@ reportRows =
     Reports (inBlock netB ++ (6 ∷ 0 ∷ 1 ∷ [])) (ascii "refused 13\n") ∷
     []
 
+-- Runs of calls on a fresh desk (02, wish 8). Each number of each call is given but 4, which takes 64 buffers; 16 comes before 7 and 8, 7 before 8, 8 before
+-- 17, 15 before 2. Net B is as it is judged above. Refused calls keep net, plan and locks, an opening replaces all three, and reading alters nothing. The
+-- limits: stages 1 and 2, layers 1 and 2, 4,096 bytes, which are read and have a wrong tag, and 4,097.
+abbrev pub deskRows : List Row
+deskRows =
+    Calls (
+    readsNot 16 ∷
+    gives (toSet 0 0) 16 ∷
+    gives (toLock 0) 16 ∷
+    gives (toUnlock 0) 16 ∷
+    opensNot [] 1 ∷
+    opensNot (replicate 4096 0) 2 ∷
+    opensNot (replicate 4097 0) 15 ∷
+    opensNot (netALong 4001 830) 3 ∷
+    opensNot (twoLayers ++ (plainDriver ++ sinkField 1 10 10 20 5 830)) 5 ∷
+    opensNot (twoLayers ++ plainDriver) 6 ∷
+    readsNot 16 ∷
+    []) ∷
+    Calls (
+    opens netB 3 2 2 ∷
+    reads 22 (negsuc 599) ∷
+    gives (toSet 0 1) 0 ∷
+    reads 32 (pos 0) ∷
+    gives (toLock 1) 0 ∷
+    gives (toLock 1) 0 ∷
+    gives (toSet 1 0) 17 ∷
+    gives (toSet 1 2) 8 ∷
+    gives (toSet 2 2) 7 ∷
+    gives (toLock 2) 7 ∷
+    gives (toUnlock 2) 7 ∷
+    opensNot [] 1 ∷
+    opensNot (replicate 4097 0) 15 ∷
+    reads 32 (pos 0) ∷
+    gives (toSet 1 1) 17 ∷
+    gives (toUnlock 1) 0 ∷
+    gives (toUnlock 1) 0 ∷
+    gives (toSet 1 1) 0 ∷
+    reads 45 (pos 600) ∷
+    []) ∷
+    Calls (
+    opens netB 3 2 2 ∷
+    gives (toSet 0 1) 0 ∷
+    gives (toLock 0) 0 ∷
+    opens (netA 830) 2 1 2 ∷
+    reads 10 (pos 0) ∷
+    gives (toSet 1 0) 7 ∷
+    gives (toSet 0 1) 0 ∷
+    reads 20 (pos 600) ∷
+    []) ∷
+    []
+
 -- All rows hold, by computing the definitions on them.
-pub settled : T (all (map holds (rows ++ (lengthRows ++ (viaRows ++ (roundsRows ++ reportRows))))))
-unfolding Basic.largest Tree.node Tree.edges Tree.childrenOf Tree.roots Tree.stages Tree.root Tree.layerCount Tree.drives Tree.rootFrom Tree.pathFrom Tree.stageOf Tree.between Tree.edgesOf Tree.terminals Tree.areLayers Tree.isPlan Tree.plans Bytes.number Bytes.signed Bytes.fieldAt Bytes.next Bytes.dueLayers Bytes.dueDriver Bytes.dueNode Bytes.layerAt Bytes.layersAt Bytes.driverAt Bytes.kindAt Bytes.costsAt Bytes.nodeAt Bytes.isTime Bytes.isLayer Bytes.isDriver Bytes.isKind Bytes.isCosts Bytes.isNode Timing.layer Timing.edgeRes Timing.edgeCap Timing.loadFrom Timing.load Timing.edgeDelay Timing.gateRes Timing.gateIntrinsic Timing.rootVia Timing.gateDelay Timing.terminalVia Timing.wireDelay Timing.requiredFrom Timing.required Timing.slack Timing.meets Timing.edgeCost Timing.cost Timing.stageCost Timing.stageCosts Grain.roundedCost Grain.meetingPlans Grain.leastRounded Grain.floor Grain.qualifies Grain.grainExponent Grain.chosen Grain.columns Grain.columnsNeeded Reading.field Reading.children Reading.buffers Reading.hasRoom Reading.isParent Reading.nodeField Reading.nodesFrom Reading.isWhole Reading.readTo Reading.read Reading.check Judging.judged Judging.judge Planning.planned Planning.cleared Planning.plan Rounds.dueRounds Rounds.roundsRun Rounds.seenPlans Rounds.cheapestSeen Rounds.highestFloor Rounds.plannedRounds Rounds.planRounds Text.decimalFrom Text.decimal Program.refusedLine Block.dueNet Block.netField Block.payload Block.netsFrom Block.block Block.lengthOn Block.overPlanned Block.refusedNets Block.totals Block.noTotals Block.report Block.countLine Block.metLine Block.metFrom Block.totalsText Block.answerText Block.reportText
+pub settled : T (all (map holds (rows ++ (lengthRows ++ (viaRows ++ (roundsRows ++ (reportRows ++ deskRows)))))))
+unfolding Basic.largest Tree.node Tree.edges Tree.childrenOf Tree.roots Tree.stages Tree.root Tree.layerCount Tree.drives Tree.rootFrom Tree.pathFrom Tree.stageOf Tree.between Tree.edgesOf Tree.terminals Tree.areLayers Tree.isPlan Tree.plans Bytes.number Bytes.signed Bytes.fieldAt Bytes.next Bytes.dueLayers Bytes.dueDriver Bytes.dueNode Bytes.layerAt Bytes.layersAt Bytes.driverAt Bytes.kindAt Bytes.costsAt Bytes.nodeAt Bytes.isTime Bytes.isLayer Bytes.isDriver Bytes.isKind Bytes.isCosts Bytes.isNode Timing.layer Timing.edgeRes Timing.edgeCap Timing.loadFrom Timing.load Timing.edgeDelay Timing.gateRes Timing.gateIntrinsic Timing.rootVia Timing.gateDelay Timing.terminalVia Timing.wireDelay Timing.requiredFrom Timing.required Timing.slack Timing.meets Timing.edgeCost Timing.cost Timing.stageCost Timing.stageCosts Grain.roundedCost Grain.meetingPlans Grain.leastRounded Grain.floor Grain.qualifies Grain.grainExponent Grain.chosen Grain.columns Grain.columnsNeeded Reading.field Reading.children Reading.buffers Reading.hasRoom Reading.isParent Reading.nodeField Reading.nodesFrom Reading.isWhole Reading.readTo Reading.read Reading.check Judging.judged Judging.judge Planning.planned Planning.cleared Planning.plan Rounds.dueRounds Rounds.roundsRun Rounds.seenPlans Rounds.cheapestSeen Rounds.highestFloor Rounds.plannedRounds Rounds.planRounds Text.decimalFrom Text.decimal Program.refusedLine Block.dueNet Block.netField Block.payload Block.netsFrom Block.block Block.lengthOn Block.overPlanned Block.refusedNets Block.totals Block.noTotals Block.report Block.countLine Block.metLine Block.metFrom Block.totalsText Block.answerText Block.reportText Desk.laidOut Desk.openDesk Desk.atStage Desk.setStage Desk.markStage Desk.called Desk.replies
 settled = tt

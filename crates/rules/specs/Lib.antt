@@ -10,4 +10,5 @@ pub mod Text
 pub mod Program
 pub mod Chart
 pub mod Block
+pub mod Desk
 pub mod Examples

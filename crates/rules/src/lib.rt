@@ -51,6 +51,9 @@ pub const MAX_BLOCK: usize = 65_536;
 // The refusal numbers that a report counts, 0 to 12 (02, wish 2); specs/Block.antt has their number for the definitions.
 pub const NET_NUMBERS: usize = 13;
 
+// The most bytes of a net that a desk takes (02, wish 8: refusal 15); specs/Desk.antt has the number for the definitions.
+pub const MAX_DESK_NET: usize = 4_096;
+
 // The kind of a node after the driver, with the numbers of its own (01, Net bytes, tags 3 to 5).
 pub enum Kind {
     Steiner,
@@ -66,6 +69,7 @@ pub enum Kind {
 }
 
 // What checking answers (01, Reading): a refusal number, 0 if accepted, and three counts.
+#[repr(C)]
 pub struct Checked {
     pub refusal: u8,
     pub nodes: u64,
@@ -74,6 +78,7 @@ pub struct Checked {
 }
 
 // What judging answers (01, Judging): a refusal number, 0 if accepted, and the plan's cost and slack.
+#[repr(C)]
 pub struct Judged {
     pub refusal: u8,
     pub cost: u64,

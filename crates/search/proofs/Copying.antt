@@ -1,10 +1,10 @@
 -- A plan that a loop copies from left to right.
-use mathlib.Core.Path.{_≡_, refl, ap, sym, _∙_}
-use mathlib.Core.List.{List, [], _∷_, _++_, append-assoc}
-use Prim.Native.Nat.{ℕ, suc, _+_, _≤_, _<_}
+use mathlib.Core.Path.{_≡_, refl, ap, _∙_}
+use mathlib.Core.List.{List, _++_}
+use Prim.Native.Nat.{ℕ, _+_, _≤_, _<_}
 use native.Mathlib.Omega.{arith}
 use lib.ListN.{length, getD, set, take, drop, length-set}
-use lib.Seq.{length-take-le, take-suc, drop-cons, set-at}
+use Rattle.laws.specs.Entries.{set-copied}
 
 -- The first n bytes are copied, the others are as before.
 pub record Copied (known before plan : List ℕ) (stages n : ℕ) : Type 0 where
@@ -19,15 +19,9 @@ module _ {known before : List ℕ} {stages : ℕ} where
   pub plan-copied-more : {plan : List ℕ} {n : ℕ} → Copied known before plan stages n → n < stages → stages ≤ length known → stages ≤ length before
       → Copied known before (set plan n (getD known n 0)) stages (n + 1)
   plan-copied-more {plan} {n} C h a b =
-      let z : n + 1 ≡ suc n = omega arith in
       record {
         inside = omega arith;
-        is = rw z (
-            ap (λ p. set p n (getD known n 0)) (C .is ∙ ap (λ r. take n known ++ r) (drop-cons before n 0 (omega arith)))
-            ∙ set-at (take n known) (getD before n 0) (drop (suc n) before) (getD known n 0) n (length-take-le n known (omega arith))
-            ∙ sym (ap (λ f. f ++ drop (suc n) before) (take-suc known n 0 (omega arith))
-            ∙ append-assoc (take n known) (getD known n 0 ∷ []) (drop (suc n) before))
-            );
+        is = ap (λ p. set p n (getD known n 0)) (C .is) ∙ set-copied 0 known before n (omega arith) (omega arith);
         long = length-set plan n (getD known n 0) ∙ C .long;
       }
 

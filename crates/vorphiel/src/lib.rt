@@ -2,19 +2,17 @@
 // version, with its own definition.
 use calls::planned;
 use calls::planned_rounds;
-use reader::Net;
-use reader::net_refusal;
-use reader::read;
+use desk::open_value;
+use desk::read_value;
+use desk_record::Desk;
+use desk_record::lock_value;
+use desk_record::set_value;
+use desk_record::unlock_value;
 use rules::Checked;
 use rules::Judged;
 use rules::Planned;
 use rules::Report;
 use rules::RoundsPlanned;
-use timing::are_layers;
-use timing::judged;
-use timing::judging_refused;
-use words::CHECK_WORDS;
-use words::WORDS;
 ghost use mathlib.Core.Path.{_≡_};
 ghost use Rattle.rules.specs.Reading.{check};
 ghost use Rattle.rules.specs.Judging.{judge};
@@ -22,32 +20,17 @@ ghost use Rattle.rules.specs.Planning.{planAnswer, plan, Demand2, Demand3};
 ghost use Rattle.rules.specs.Rounds.{roundsAnswer, planRounds, RoundsPromise};
 ghost use Rattle.rules.specs.Chart.{tableEntries};
 ghost use Rattle.rules.specs.Block.{report, BlockPromise};
+ghost use Rattle.rules.specs.Desk.{toOpen, toSet, toLock, toUnlock, toRead, countsReply, numberReply, figuresReply};
+ghost use Rattle.desk_record.specs.OnRecord.{deskSize, setOn, lockOn, unlockOn};
+ghost use Rattle.desk.specs.OnDesk.{openOn, readOn};
+ghost use Rattle.desk.specs.Stands.{Follows};
 ghost use Rattle.vorphiel.specs.Version.{version};
 
 // Checking (01, Reading): the counts of nodes, stages and layers of the net that the bytes hold, or the number of the first fault and zeros.
 pub fn check(net: &[u8]) -> Checked
     ensures { λ r. ⌜ r ≡ check (now (net .entry)) ⌝ }
 {
-    let mut words = [0u32; CHECK_WORDS];
-    let found = read(net, false, &mut words);
-    match found {
-        Net::Read {
-            nodes,
-            stages,
-            layers,
-        } => Checked {
-            refusal: 0,
-            nodes: (nodes + 1) as u64,
-            stages: stages as u64,
-            layers: layers as u64,
-        },
-        Net::Refused(r) => Checked {
-            refusal: r,
-            nodes: 0,
-            stages: 0,
-            layers: 0,
-        },
-    }
+    judging::check(net)
 }
 
 // Checking for hosts in other languages: the result is the refusal number, the three counts are left where the host says.
@@ -74,25 +57,7 @@ pub extern "C" fn vorphiel_check(
 pub fn judge(net: &[u8], plan: &[u8]) -> Judged
     ensures { λ r. ⌜ r ≡ judge (now (net .entry)) (now (plan .entry)) ⌝ }
 {
-    let mut words = [0u32; WORDS];
-    let found = read(net, true, &mut words);
-    let Net::Read {
-        nodes,
-        stages,
-        layers,
-    } = found
-    else {
-        return judging_refused(net_refusal(found));
-    };
-    let sized = plan.len() == stages;
-    let layered = are_layers(plan, layers);
-    if !sized {
-        return judging_refused(7);
-    }
-    if !layered {
-        return judging_refused(8);
-    }
-    judged(&words, nodes, plan)
+    judging::judge(net, plan)
 }
 
 // Judging for hosts in other languages: the result is the refusal number, cost and slack are left where the host says.
@@ -234,11 +199,82 @@ pub extern "C" fn vorphiel_report(block: &[u8]) -> Report
     report(block)
 }
 
+// The desk (02, wish 8): a record that the host lends and each call alters there. Each contract has two clauses. The first is an equation for every content
+// that the record can have: no call leads beyond it, whatever a host wrote there. The second says it in the words of the rules: whatever desk in mind the
+// record stands for, it then stands for the one that the rules say, and the answer is theirs. That the desk came from these calls enters there and nowhere
+// else. For every run of calls on a record that was cleared: `fresh-runs` (crates/desk/specs/Runs.antt).
+
+// The size of the record, for hosts that cannot ask their compiler.
+#[no_mangle]
+pub extern "C" fn vorphiel_desk_size() -> u64
+    ensures { λ r. ⌜ r ≡ deskSize ⌝ }
+{
+    desk_record::desk_size()
+}
+
+// Opening: the net's bytes are copied, every stage is on layer 0, unlocked; the reader's counts; or 15, or 1 to 6, and zeros.
+#[no_mangle]
+pub extern "C" fn vorphiel_desk_open(desk: &mut Desk, net: &[u8]) -> Checked
+    ensures { λ r. ⌜ record { desk = now (desk .exit); answer = r } ≡ openOn (now (desk .entry)) (now (net .entry)) ⌝ }
+    ensures { λ r. ⌜ Follows (toOpen (now (net .entry))) (now (desk .entry)) (now (desk .exit)) (countsReply r) ⌝ }
+{
+    let v = *desk;
+    let o = open_value(v, net);
+    *desk = o.desk;
+    o.answer
+}
+
+// Setting: a stage is moved to a layer; or 16, then 7, then 8, then 17.
+#[no_mangle]
+pub extern "C" fn vorphiel_desk_set(desk: &mut Desk, stage: u64, layer: u64) -> u8
+    ensures { λ r. ⌜ record { desk = now (desk .exit); answer = r } ≡ setOn (now (desk .entry)) stage layer ⌝ }
+    ensures { λ r. ⌜ Follows (toSet stage layer) (now (desk .entry)) (now (desk .exit)) (numberReply r) ⌝ }
+{
+    let v = *desk;
+    let o = set_value(v, stage, layer);
+    *desk = o.desk;
+    o.answer
+}
+
+// Locking: a stage is marked as locked; or 16, then 7.
+#[no_mangle]
+pub extern "C" fn vorphiel_desk_lock(desk: &mut Desk, stage: u64) -> u8
+    ensures { λ r. ⌜ record { desk = now (desk .exit); answer = r } ≡ lockOn (now (desk .entry)) stage ⌝ }
+    ensures { λ r. ⌜ Follows (toLock stage) (now (desk .entry)) (now (desk .exit)) (numberReply r) ⌝ }
+{
+    let v = *desk;
+    let o = lock_value(v, stage);
+    *desk = o.desk;
+    o.answer
+}
+
+// Unlocking: a stage is marked as not locked; or 16, then 7.
+#[no_mangle]
+pub extern "C" fn vorphiel_desk_unlock(desk: &mut Desk, stage: u64) -> u8
+    ensures { λ r. ⌜ record { desk = now (desk .exit); answer = r } ≡ unlockOn (now (desk .entry)) stage ⌝ }
+    ensures { λ r. ⌜ Follows (toUnlock stage) (now (desk .entry)) (now (desk .exit)) (numberReply r) ⌝ }
+{
+    let v = *desk;
+    let o = unlock_value(v, stage);
+    *desk = o.desk;
+    o.answer
+}
+
+// Reading: the cost and slack that judging gives for the net and the plan on the desk; or 16 and zeros.
+#[no_mangle]
+pub extern "C" fn vorphiel_desk_read(desk: &Desk) -> Judged
+    ensures { λ r. ⌜ r ≡ readOn (now (desk .entry)) ⌝ }
+    ensures { λ r. ⌜ Follows toRead (now (desk .entry)) (now (desk .entry)) (figuresReply r) ⌝ }
+{
+    let v = *desk;
+    read_value(v)
+}
+
 // The library's version (CHANGELOG.md), counted as the header counts its own.
 pub fn version() -> u64
     ensures { λ r. ⌜ r ≡ version ⌝ }
 {
-    10000
+    10100
 }
 
 // The version for hosts in other languages.

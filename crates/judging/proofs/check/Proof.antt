@@ -3,11 +3,11 @@ use borrow.Author.Needs.{needs}
 use native.Mathlib.Omega.{arith}
 use mathlib.Core.Path.{_≡_}
 use Prim.Native.Nat.{ℕ}
-use Rattle.vorphiel.proofs.Checking.{checked-refused, checked-found, few-read}
-use Rattle.vorphiel.proofs.check.Statement.{statement}
-use Rattle.vorphiel.proofs.check.Tie as tie
-use Rattle.vorphiel.proofs.check.Reads as reads
-use Rattle.vorphiel.proofs.check.Lts as lts
+use Rattle.judging.proofs.Checking.{checked-refused, checked-found, few-read}
+use Rattle.judging.proofs.check.Statement.{statement}
+use Rattle.judging.proofs.check.Tie as tie
+use Rattle.judging.proofs.check.Reads as reads
+use Rattle.judging.proofs.check.Lts as lts
 use Rattle.reader.proofs.read.Reads as read-reads
 
 slice-aggregate-read : tie.Need-slice-aggregate-read

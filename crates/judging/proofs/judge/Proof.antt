@@ -5,11 +5,11 @@ use borrow.Author.Tests.{not-true, not-false, eqb-true, eqb-false}
 use Rattle.reader.specs.Kept.{Kept, held-read}
 use Rattle.tree.specs.Plans.{fitting}
 use Rattle.reader.specs.Net.{netRefusal}
-use Rattle.vorphiel.proofs.Judging.{judge-unread, judge-7, judge-8, judge-done}
-use Rattle.vorphiel.proofs.judge.Statement.{statement}
-use Rattle.vorphiel.proofs.judge.Tie as tie
-use Rattle.vorphiel.proofs.judge.Reads as reads
-use Rattle.vorphiel.proofs.judge.Lts as lts
+use Rattle.judging.proofs.Judging.{judge-unread, judge-7, judge-8, judge-done}
+use Rattle.judging.proofs.judge.Statement.{statement}
+use Rattle.judging.proofs.judge.Tie as tie
+use Rattle.judging.proofs.judge.Reads as reads
+use Rattle.judging.proofs.judge.Lts as lts
 use Rattle.reader.proofs.read.Reads as read-reads
 use Rattle.timing.proofs.are_layers.Reads as are-layers-reads
 use Rattle.timing.proofs.judged.Reads as judged-reads

@@ -1,0 +1,4 @@
+pub mod OnDesk
+pub mod Stands
+pub mod Runs
+pub mod Numbers

@@ -1,0 +1,5 @@
+pub mod Core
+pub mod Outcomes
+pub mod ThinTwo
+pub mod ThinOne
+pub mod Seen
