@@ -4,9 +4,9 @@
  *
  * Random nets are made from the nets in the files, from nets grown here, and from rubbish; vorphiel_check, vorphiel_judge, vorphiel_plan and
  * vorphiel_plan_rounds are called on them with random plans, shares, rounds, tables and plan buffers, vorphiel_report on blocks of them, whole and damaged, and
- * vorphiel_table_entries with random numbers. A net without vias is tried in both editions, and via resistances are raised. After each call it is seen whether
- * what the header promises came true. There is no second planner here: the calls are held against each other and against the header (the comparison with a plain
- * search is in tests/).
+ * vorphiel_table_entries with random numbers. A net without vias is tried in both editions, and via resistances are raised. Runs of the desk's calls are made
+ * beside a list of layers and locks, and on desks over which something else was written. After each call it is seen whether what the header promises came true.
+ * There is no second planner here: the calls are held against each other and against the header (the comparison with a plain search is in tests/).
  *
  * The library is a finished archive that no sanitizer has seen. So every buffer is lent flush with the start or the end of its pages, with pages that may not
  * be touched before and behind, and what is only to be read stands in pages that cannot be written: a stray read or write ends in a signal.
@@ -42,7 +42,8 @@ enum {
     MOST_SHARE = 1000,
     MOST_K = 28,
     MOST_ROUNDS = MOST_K + 1,
-    NUMBERS = 15,            /* 0 and the refusal numbers */
+    MOST_DESK_NET = 4096,    /* bytes of a net that a desk takes */
+    NUMBERS = 18,            /* 0 and the refusal numbers */
     POOL = 64,               /* nets that are kept to make others from */
     PATIENCE = 10,           /* seconds after which a call is a fault */
 };
@@ -78,7 +79,7 @@ static int64_t between(int64_t low, int64_t high)
 
 /* ---- Lent buffers ---- */
 
-enum { NET, PLAN, TABLE, BLOCK, RESULTS, LENT = RESULTS + 4 };
+enum { NET, PLAN, TABLE, BLOCK, DESK, RESULTS, LENT = RESULTS + 4 };
 
 /* Pages with a guard before and behind, and what is lent of them. */
 struct lent {
@@ -90,7 +91,7 @@ struct lent {
 };
 
 static struct lent lent[LENT] = {
-    {.name = "net"},      {.name = "plan"},     {.name = "table"},    {.name = "block"},
+    {.name = "net"},      {.name = "plan"},     {.name = "table"},    {.name = "block"},    {.name = "desk"},
     {.name = "result 0"}, {.name = "result 1"}, {.name = "result 2"}, {.name = "result 3"},
 };
 
@@ -116,6 +117,9 @@ static void make_all_lent(void)
     make_lent(&lent[PLAN], MOST_PLAN);
     make_lent(&lent[TABLE], MOST_TABLE * sizeof(int64_t));
     make_lent(&lent[BLOCK], MOST_TRIED);
+    /* A desk has 4,248 bytes, 8 more than a multiple of 16: flush with the end of its pages, its address is a multiple
+     * of 8 and not of 16, and the header asks for no more. */
+    make_lent(&lent[DESK], sizeof(struct vorphiel_desk));
     for (int i = RESULTS; i < LENT; i++)
         make_lent(&lent[i], sizeof(uint64_t));
 }
@@ -171,11 +175,18 @@ static void protect(struct lent *l, int how)
 
 /* ---- The call under way, and the report of a fault ---- */
 
-/* The first four are on a net and have refusal numbers; the chart's call has neither, and the report's is on a block. */
-enum { CHECK, JUDGE, PLANNING, ROUNDS, CALLS, TABLE_ENTRIES = CALLS, REPORT };
+/* The first four are on a net and have refusal numbers, the next five are on a desk and have them too; the chart's call
+ * has neither, and the report's is on a block. */
+enum {
+    CHECK, JUDGE, PLANNING, ROUNDS,
+    DESK_OPEN, DESK_SET, DESK_LOCK, DESK_UNLOCK, DESK_READ, CALLS,
+    TABLE_ENTRIES = CALLS, REPORT,
+};
 
 static const char *const CALL_NAMES[] = {
-    "vorphiel_check", "vorphiel_judge", "vorphiel_plan", "vorphiel_plan_rounds", "vorphiel_table_entries", "vorphiel_report",
+    "vorphiel_check", "vorphiel_judge", "vorphiel_plan", "vorphiel_plan_rounds",
+    "vorphiel_desk_open", "vorphiel_desk_set", "vorphiel_desk_lock", "vorphiel_desk_unlock", "vorphiel_desk_read",
+    "vorphiel_table_entries", "vorphiel_report",
 };
 
 /* What is asked of a call that plans: of PLANNING the share p/q, of ROUNDS the number r. */
@@ -193,7 +204,12 @@ static struct {
     int planned;     /* the net was planned, and this was asked: */
     struct asked asked;
     uint64_t chart_s, chart_q; /* what vorphiel_table_entries was asked last */
+    uint64_t stage, layer;     /* what a desk's call was asked last */
+    int spoilt;                /* not only the calls altered the desk */
 } now;
+
+/* The desk before the call under way, which is lent a copy: so it moves from call to call. */
+static struct vorphiel_desk desk;
 
 /* Only write is used from here on, for the report may come from within a signal. */
 static void say(const char *text)
@@ -215,14 +231,15 @@ static void say_number(const char *before, uint64_t number)
 }
 
 /* 32 bytes a line, each line after the same words. */
-static void say_bytes(const char *before, const struct lent *l)
+static void say_bytes(const char *before, const void *bytes, size_t len)
 {
     static const char HEX[] = "0123456789ABCDEF";
-    for (size_t start = 0; start < l->len; start += 32) {
+    const uint8_t *at = bytes;
+    for (size_t start = 0; start < len; start += 32) {
         char text[66], *to = text;
-        for (size_t i = start; i < l->len && i < start + 32; i++) {
-            *to++ = HEX[l->at[i] >> 4];
-            *to++ = HEX[l->at[i] & 15];
+        for (size_t i = start; i < len && i < start + 32; i++) {
+            *to++ = HEX[at[i] >> 4];
+            *to++ = HEX[at[i] & 15];
         }
         *to++ = '\n';
         *to = '\0';
@@ -250,6 +267,21 @@ static void say_asked(void)
     say("\n");
 }
 
+static int is_of_desk(int call)
+{
+    return call >= DESK_OPEN && call <= DESK_READ;
+}
+
+/* Of a call on a desk also what stood there before it. */
+static void say_desk(void)
+{
+    say_lent(&lent[DESK], 1);
+    say_number("# stage ", now.stage);
+    say_number(", layer ", now.layer);
+    say(now.spoilt ? "; a desk that was written over. Before the call:\n" : "; before the call:\n");
+    say_bytes("#   ", &desk, sizeof desk);
+}
+
 /* The lent buffers and the numbers of the call; of the last planning too, if what it gave is being looked at. */
 static void say_call(void)
 {
@@ -264,10 +296,14 @@ static void say_call(void)
         return;
     }
     say_lent(&lent[NET], 1);
+    if (is_of_desk(now.call)) {
+        say_desk();
+        return;
+    }
     if (now.call != CHECK)
         say_lent(&lent[PLAN], 1);
     if (now.call == JUDGE)
-        say_bytes("#   ", &lent[PLAN]);
+        say_bytes("#   ", lent[PLAN].at, lent[PLAN].len);
     if (now.planned) {
         say_lent(&lent[TABLE], sizeof(int64_t));
         say_asked();
@@ -285,8 +321,9 @@ static void fault(const char *what)
     say(CALL_NAMES[now.call]);
     say("\n");
     say_call();
+    const struct lent *read = &lent[now.call == REPORT ? BLOCK : NET];
     if (now.call != TABLE_ENTRIES)
-        say_bytes("", &lent[now.call == REPORT ? BLOCK : NET]);
+        say_bytes("", read->at, read->len);
     _exit(1);
 }
 
@@ -374,11 +411,12 @@ enum { NODES, STAGES, LAYERS };              /* of vorphiel_check */
 enum { COST, SLACK, GRAIN_EXPONENT, FLOOR }; /* of vorphiel_plan; the first two also of vorphiel_judge */
 enum { ROUNDS_RUN = GRAIN_EXPONENT };        /* of vorphiel_plan_rounds, beside cost, slack and floor */
 
-/* How often each call answered with each number. */
-static uint64_t met[CALLS][NUMBERS];
+/* How often each call answered with each number; on desks that were written over apart, all calls together. */
+static uint64_t met[CALLS][NUMBERS], met_spoilt[NUMBERS];
 
-/* Bit n: the call may answer n. */
-static const unsigned ALLOWED[] = {0x007F, 0x01FF, 0x1E7F, 0x5C7F};
+/* Bit n: the call may answer n; any call on a desk that was written over. */
+static const unsigned ALLOWED[] = {0x007F, 0x01FF, 0x1E7F, 0x5C7F, 0x807F, 0x30181, 0x10081, 0x10081, 0x10001};
+static const unsigned ALLOWED_SPOILT = 0x381FF;
 
 /* What stands in tables, plan buffers and results before a call; no word of it is 0. */
 static uint64_t rubbish[MOST_TABLE + 64];
@@ -409,8 +447,9 @@ static struct answer finish(unsigned refusal, int results)
     struct answer answer = {.refusal = refusal};
     now.under_way = 0;
     protect(&lent[NET], PROT_READ | PROT_WRITE);
-    must(refusal < NUMBERS && (ALLOWED[now.call] >> refusal & 1), "a refusal number that the call does not have");
-    met[now.call][refusal]++;
+    unsigned allowed = now.spoilt ? ALLOWED_SPOILT : ALLOWED[now.call];
+    must(refusal < NUMBERS && (allowed >> refusal & 1), "a refusal number that the call does not have");
+    (now.spoilt ? met_spoilt : met[now.call])[refusal]++;
     must(margins_kept(&lent[NET]), "bytes beside the net were changed");
     for (int i = 0; i < results; i++) {
         memcpy(&answer.results[i], result(i), sizeof(uint64_t));
@@ -1743,6 +1782,213 @@ static void try_block(void)
     add_told(&found);
 }
 
+/* ---- One desk: runs of calls on it, and what a list of layers and locks would do ---- */
+
+/* The list: the net of the last accepted opening, its counts (0 before the first), each stage's layer and lock. */
+struct list {
+    struct net net;
+    struct answer counts;
+    uint8_t layers[MOST_STAGES], locks[MOST_STAGES];
+};
+
+static struct list list;
+
+static void put_results(const uint64_t *results, int count)
+{
+    for (int i = 0; i < count; i++)
+        memcpy(result(i), &results[i], sizeof results[i]);
+}
+
+/* Makes the call with what was lent; its results go where those of other calls are. */
+static unsigned ask_desk(int call, uint64_t stage, uint64_t layer)
+{
+    struct vorphiel_desk *at = (struct vorphiel_desk *)(void *)lent[DESK].at;
+    if (call == DESK_OPEN) {
+        struct vorphiel_checked opened = vorphiel_desk_open(at, lent[NET].at, lent[NET].len);
+        put_results((const uint64_t[]){opened.nodes, opened.stages, opened.layers}, 3);
+        return opened.refusal;
+    }
+    if (call == DESK_READ) {
+        struct vorphiel_judged read = vorphiel_desk_read(at);
+        put_results((const uint64_t[]){read.cost, (uint64_t)read.slack}, 2);
+        return read.refusal;
+    }
+    if (call == DESK_SET)
+        return vorphiel_desk_set(at, stage, layer);
+    return call == DESK_LOCK ? vorphiel_desk_lock(at, stage) : vorphiel_desk_unlock(at, stage);
+}
+
+/* Makes a call on a copy of the desk, which reading cannot write; with the net to be opened, or that of the list. A
+ * refusal leaves every byte. */
+static struct answer call_desk(int call, const struct net *net, uint64_t stage, uint64_t layer)
+{
+    int reading = call == DESK_READ;
+    lend(&lent[DESK], &desk, sizeof desk);
+    if (reading)
+        protect(&lent[DESK], PROT_READ);
+    now.stage = stage;
+    now.layer = layer;
+    begin(call, net);
+    struct answer answer = finish(ask_desk(call, stage, layer), call == DESK_OPEN ? 3 : reading ? 2 : 0);
+    if (reading)
+        protect(&lent[DESK], PROT_READ | PROT_WRITE);
+    must(margins_kept(&lent[DESK]), "bytes beside the desk were changed");
+    must(answer.refusal == 0 || memcmp(lent[DESK].at, &desk, sizeof desk) == 0, "a refusal changed the desk");
+    return answer;
+}
+
+/* The desk is what the call left. */
+static void keep_desk(void)
+{
+    memcpy(&desk, lent[DESK].at, sizeof desk);
+}
+
+/* What is due: the header's numbers in their order, the counts of checking, the cost and slack of judging. */
+static struct answer desk_answer(int call, const struct net *net, uint64_t stage, uint64_t layer)
+{
+    const uint64_t *counts = list.counts.results;
+    if (call == DESK_OPEN)
+        return net->len <= MOST_DESK_NET ? check_rightly(net) : (struct answer){.refusal = 15};
+    if (counts[STAGES] == 0)
+        return (struct answer){.refusal = 16};
+    if (call == DESK_READ)
+        return judge_rightly(&list.net, &list.counts, list.layers, counts[STAGES]);
+    if (stage >= counts[STAGES])
+        return (struct answer){.refusal = 7};
+    if (call == DESK_SET && layer >= counts[LAYERS])
+        return (struct answer){.refusal = 8};
+    return (struct answer){.refusal = call == DESK_SET && list.locks[stage] ? 17 : 0};
+}
+
+/* What an accepted call does to the list. */
+static void change_list(int call, const struct net *net, const struct answer *answer, uint64_t stage, uint64_t layer)
+{
+    if (call == DESK_OPEN) {
+        copy_net(&list.net, net);
+        list.counts = *answer;
+        memset(list.layers, 0, sizeof list.layers);
+        memset(list.locks, 0, sizeof list.locks);
+    } else if (call == DESK_SET) {
+        list.layers[stage] = (uint8_t)layer;
+    } else if (call != DESK_READ) {
+        list.locks[stage] = call == DESK_LOCK;
+    }
+}
+
+/* Whether a host that looks at the desk sees the list. */
+static int shows_list(void)
+{
+    const struct vorphiel_desk *seen = (const struct vorphiel_desk *)(void *)lent[DESK].at;
+    const uint64_t *counts = list.counts.results;
+    return seen->stages == counts[STAGES] && seen->layers == counts[LAYERS] &&
+           memcmp(seen->plan, list.layers, counts[STAGES]) == 0 && memcmp(seen->locks, list.locks, counts[STAGES]) == 0;
+}
+
+static void call_desk_rightly(int call, const struct net *net, uint64_t stage, uint64_t layer)
+{
+    struct answer due = desk_answer(call, net, stage, layer), found = call_desk(call, net, stage, layer);
+    must(found.refusal == due.refusal, "not the refusal that is due");
+    must(memcmp(&found, &due, sizeof due) == 0, "not the counts of checking, or not the cost and slack of judging");
+    if (found.refusal == 0)
+        change_list(call, net, &found, stage, layer);
+    must(shows_list(), "the desk does not show the layers and locks that a list would have");
+}
+
+/* A net of 64 stages that with 8 layers has as many bytes as a desk takes, 4,096; one more buffer is too many. */
+static void grow_desk_net(struct net *net, size_t layers, size_t buffers)
+{
+    const size_t points = 13, sinks = 5;
+    struct growing g = {.net = net, .layers = layers, .scale = between(1, 1000)};
+    net->len = 0;
+    add_field(&g, SECOND_EDITION, 0);
+    add_field(&g, 2, 0);
+    for (size_t parent = 0; parent < points + buffers; parent++)
+        add_node(&g, parent < points ? 3 : 4, parent);
+    add_node(&g, 5, g.nodes);
+    for (size_t parent = 1; parent <= sinks; parent++)
+        add_node(&g, 5, parent);
+}
+
+/* A net for a desk: as any other, but more often one at the limits, refused with 4, or too long. */
+static void make_net_of_desk(struct net *net)
+{
+    if (one_in(6))
+        grow_desk_net(net, one_in(2) ? 8 : 1 + below(8), MOST_STAGES - 1 + (size_t)one_in(3));
+    else if (one_in(12))
+        make_large_net(net);
+    else
+        make_net(net);
+    if (one_in(12) && net->len <= MOST_DESK_NET)
+        replace(net, net->len, 0, (const uint8_t *)rubbish, MOST_DESK_NET + below(2) - net->len);
+}
+
+/* A number, mostly below the limit; or near it or anywhere, or one whose last 8 or 32 bits alone are below it. */
+static uint64_t some_below(uint64_t limit)
+{
+    uint64_t number = limit == 0 ? 0 : below(limit);
+    return !one_in(4) ? number : one_in(2) ? wild_number(limit) : number + (one_in(2) ? 256 : UINT64_C(1) << 32);
+}
+
+/* Something written over the desk: all of it, a count, a layer, a lock, a byte of the net, or any byte. */
+static void spoil_desk(void)
+{
+    switch (below(8)) {
+    case 0: memcpy(&desk, some_rubbish(), sizeof desk); break;
+    case 1: desk.used = wild_number(MOST_DESK_NET); break;
+    case 2: desk.stages = wild_number(MOST_STAGES); break;
+    case 3: desk.layers = wild_number(MOST_LAYERS); break;
+    case 4: desk.plan[below(MOST_STAGES)] = one_in(2) ? 255 : (uint8_t)any(); break;
+    case 5: desk.locks[below(MOST_STAGES)] = one_in(2) ? 255 : (uint8_t)any(); break;
+    case 6: desk.net[below(one_in(2) ? 100 : MOST_DESK_NET)] ^= (uint8_t)(1u << below(8)); break;
+    default: ((uint8_t *)&desk)[below(sizeof desk)] = (uint8_t)any();
+    }
+}
+
+/* One call: on a desk that only the calls altered it does what the list does; on another it stays within the desk. */
+static void one_desk_call(void)
+{
+    static struct net net;
+    int call = one_in(list.counts.results[STAGES] == 0 ? 2 : 8) ? DESK_OPEN : DESK_SET + (int)below(4);
+    const struct net *given_net = call == DESK_OPEN ? &net : &list.net;
+    uint64_t stage = some_below(now.spoilt ? MOST_STAGES : list.counts.results[STAGES]);
+    uint64_t layer = some_below(now.spoilt ? MOST_LAYERS : list.counts.results[LAYERS]);
+    if (call == DESK_OPEN)
+        make_net_of_desk(&net);
+    if (now.spoilt)
+        call_desk(call, given_net, stage, layer);
+    else
+        call_desk_rightly(call, given_net, stage, layer);
+    keep_desk();
+}
+
+/* A run of calls on a desk that was cleared; now and then a copy is kept, or put back. Then it is written over. */
+static void try_desk(void)
+{
+    static struct vorphiel_desk kept;
+    static struct list kept_list;
+    memset(&desk, 0, sizeof desk);
+    memset(&list, 0, sizeof list);
+    kept = desk;
+    kept_list = list;
+    for (size_t turns = below(50); turns > 0; turns--) {
+        one_desk_call();
+        if (one_in(16)) {
+            kept = desk;
+            kept_list = list;
+        } else if (one_in(32)) {
+            desk = kept;
+            list = kept_list;
+        }
+    }
+    now.spoilt = 1;
+    for (size_t turns = below(20); turns > 0; turns--) {
+        if (one_in(2))
+            spoil_desk();
+        one_desk_call();
+    }
+    now.spoilt = 0;
+}
+
 /* ---- The run ---- */
 
 static void read_net(const char *name)
@@ -1773,6 +2019,16 @@ static int print_met(int call)
     }
     printf("\n");
     return missing;
+}
+
+/* One line for the desks that were written over: which numbers the calls gave on them. */
+static void print_spoilt(void)
+{
+    printf("desks written over   accepted %" PRIu64 "; refused", met_spoilt[0]);
+    for (unsigned number = 1; number < NUMBERS; number++)
+        if (ALLOWED_SPOILT >> number & 1)
+            printf("  %u: %" PRIu64, number, met_spoilt[number]);
+    printf("\n");
 }
 
 /* One line for the report: how often it gave 13, and how many nets it told of with each number; how many of these it never gave. */
@@ -1817,6 +2073,7 @@ static void print_summary(void)
     int missing = 0;
     for (int call = 0; call < CALLS; call++)
         missing += print_met(call);
+    print_spoilt();
     missing += print_second_edition();
     missing += print_told();
     printf("%s on the chart %" PRIu64 "; off it %" PRIu64 "\n", CALL_NAMES[TABLE_ENTRIES], charted, uncharted);
@@ -1847,10 +2104,16 @@ int main(int count, char **arguments)
         read_net(arguments[i]);
     make_all_lent();
     set_signals();
+    if (vorphiel_desk_size() != sizeof desk) {
+        printf("# fuzz: the library's desk has not %zu bytes, but %" PRIu64 "\n", sizeof desk, vorphiel_desk_size());
+        return 1;
+    }
     do {
         try_net();
         if (one_in(20))
             try_block();
+        if (one_in(4))
+            try_desk();
     } while ((uint64_t)seconds < length);
     print_summary();
     return 0;

@@ -73,7 +73,7 @@ impl Pair for Block {
 }
 
 /// The bytes that a text of nets/ says: digits up to #, two for a byte.
-fn bytes_of(text: &str) -> Vec<u8> {
+pub fn bytes_of(text: &str) -> Vec<u8> {
     let said = text.lines().filter_map(|line| line.split('#').next());
     let digits: Vec<u32> = said.flat_map(str::chars).filter_map(|digit| digit.to_digit(16)).collect();
     digits.chunks(2).map(|pair| (16 * pair[0] + pair[1]) as u8).collect()

@@ -2,6 +2,7 @@
 
 use crate::library::Refusal;
 use crate::peer;
+use vorphiel_tests::c_calls::MOST_DESK_NET;
 use vorphiel_tests::nets::{Draft, Kind, Node, Random};
 
 /// A net to be measured.
@@ -71,14 +72,36 @@ pub fn with_vias() -> Vec<Case> {
     family("vias", Shape::Free, Size { vias: true, ..LIMITS })
 }
 
+/// Of each shape the largest net of 64 stages that a desk takes.
+pub fn for_desks() -> Vec<Case> {
+    let shapes = [
+        ("long chain", Shape::Chain),
+        ("balanced tree", Shape::Balanced),
+        ("wide stage", Shape::Wide),
+        ("free tree", Shape::Free),
+    ];
+    shapes.map(|(name, shape)| case(name, shape, largest_for_desk(shape), Times::Middle)).into()
+}
+
+/// As many layers as there is room for with as few nodes as such a net can have, then as many nodes.
+fn largest_for_desk(shape: Shape) -> Size {
+    let fits = |&size: &Size| grown(shape, size, &mut Random::new(SEED)).bytes().len() <= MOST_DESK_NET;
+    let few = Size { nodes: LIMITS.stages, ..LIMITS };
+    let layers =
+        (1..=LIMITS.layers).rev().map(|layers| Size { layers, ..few }).find(fits).expect("a net with one layer");
+    (few.nodes..=LIMITS.nodes).rev().map(|nodes| Size { nodes, ..layers }).find(fits).expect("the net found before")
+}
+
 /// Nets of one shape and size, one for each choice of times.
 fn family(name: &str, shape: Shape, size: Size) -> Vec<Case> {
     let times = [("tight", Times::Tight), ("middle", Times::Middle), ("loose", Times::Loose)];
     times.map(|(times_name, times)| case(&format!("{name}, {times_name}"), shape, size, times)).into()
 }
 
+const SEED: u64 = 7;
+
 pub fn case(name: &str, shape: Shape, size: Size, times: Times) -> Case {
-    let mut random = Random::new(7);
+    let mut random = Random::new(SEED);
     let mut draft = grown(shape, size, &mut random);
     set_times(&mut draft, times);
     Case { name: String::from(name), bytes: draft.bytes(), stages: size.stages }

@@ -1,15 +1,17 @@
 //! The library's speed beside the peer's: the same method, written in plain Rust and compiled with optimization. And the report over a block of small nets
-//! beside planning them one by one.
+//! beside planning them one by one, and the calls on a desk beside judging its net.
 //!
 //!     vorphiel-bench          prints the tables of docs/SPEED.md
-//!     vorphiel-bench --same   only whether both give the same answers, and whether the report keeps to its bound
+//!     vorphiel-bench --same   only whether both give the same answers, and whether the report and reading a desk keep to their bounds
 //!     vorphiel-bench --rounds   only the tables of planning by rounds
 //!     vorphiel-bench --blocks   only the table of the blocks
+//!     vorphiel-bench --desks   only the table of the desks
 //!     vorphiel-bench --stack   only the table of the stack that each call takes
-//!     vorphiel-bench --once   each measured call once, for callgrind; --once-rounds does so for planning by rounds, --once-blocks BYTES for blocks of at most
-//!                             so many bytes
+//!     vorphiel-bench --once   each measured call once, for callgrind; --once-rounds does so for planning by rounds, --once-desks for desks, --once-blocks BYTES
+//!                             for blocks of at most so many bytes
 
 mod blocks;
+mod desks;
 mod families;
 #[path = "../../hosts/vorphiel.rs"]
 mod library;
@@ -24,6 +26,7 @@ use measure::{Call, Job, Pair};
 use report::Measured;
 use std::hint::black_box;
 use std::ops::Range;
+use vorphiel_tests::c_calls::DeskSize;
 
 /// The shares of the table.
 const SHARES: [(u64, u64); 4] = [(1, 1), (1, 4), (1, 10), (1, 100)];
@@ -118,36 +121,59 @@ fn measure_blocks() {
     report::blocks(&blocks, &measured);
 }
 
-/// The table of the stack: of each call the most, over all nets, shares and blocks.
+/// The table of the desks.
+fn measure_desks() {
+    let nets = desks::nets();
+    let mut jobs = desks::jobs(&nets);
+    let counted = desks::counted(jobs.len());
+    let measured = beside_times(counted.as_ref(), &mut jobs);
+    report::desks(&nets, &measured);
+}
+
+/// The most stack of each call on a desk.
+fn desk_stacks() -> [(&'static str, usize); 5] {
+    let nets = desks::nets();
+    desks::Call::ALL.map(|call| {
+        let jobs = desks::jobs(&nets).into_iter().filter(|job| job.call == call);
+        (call.name(), stack::most(jobs))
+    })
+}
+
+/// The table of the stack: of each call the most, over all nets, shares, blocks and desks.
 fn measure_stack() {
     let (cases, _) = kinds_of_nets();
     let most = |call| stack::most(cases.iter().map(|case| Job::new(case, call)));
     let plan = SHARES.map(|(p, q)| most(Call::Plan { p, q }));
     let blocks = blocks::of_small_nets(blocks::LONGEST).into_iter().chain([blocks::deepest()]);
-    report::stacks(&[
+    let of_nets = [
         ("check", most(Call::Check)),
         ("judge", most(Call::Judge)),
         ("plan", plan.into_iter().max().expect("a share")),
         ("plan_rounds", most(Call::Rounds { r: MOST_ROUNDS })),
         ("table_entries", stack::bytes(&mut || _ = black_box(library::table_entries(64, 4)))),
         ("report", stack::most(blocks)),
-        ("version", stack::bytes(&mut || _ = black_box(library::version()))),
-    ]);
+        // SAFETY: the call takes nothing.
+        ("desk_size", stack::bytes(&mut || _ = black_box(unsafe { DeskSize {}.make() }))),
+    ];
+    let version = ("version", stack::bytes(&mut || _ = black_box(library::version())));
+    report::stacks(&[&of_nets[..], &desk_stacks(), &[version]].concat());
 }
 
 fn main() {
     let arguments: Vec<String> = std::env::args().skip(1).collect();
     match &arguments.iter().map(String::as_str).collect::<Vec<_>>()[..] {
         ["--once-blocks", bytes] => measure::run_once(&mut blocks::of_small_nets(bytes.parse().expect("a number"))),
+        ["--once-desks"] => measure::run_once(&mut desks::jobs(&desks::nets())),
         ["--once-rounds"] => measure::run_once(&mut by_rounds(&kinds_of_nets().0, MOST_ROUNDS)),
         ["--blocks"] => measure_blocks(),
+        ["--desks"] => measure_desks(),
         ["--rounds"] => measure_rounds(),
         ["--stack"] => measure_stack(),
         asked => measure_calls(asked),
     }
 }
 
-/// What is asked for of the other calls on a net, and then of rounds and blocks.
+/// What is asked for of the other calls on a net, and then of rounds, blocks and desks.
 fn measure_calls(asked: &[&str]) {
     let ((cases, kinds), growing, calls) = (kinds_of_nets(), growing(), calls());
     let at_limits = cases.iter().flat_map(|case| calls.iter().map(move |&call| Job::new(case, call)));
@@ -162,6 +188,7 @@ fn measure_calls(asked: &[&str]) {
         let by_rounds = ROUNDS.map(|r| compare(&mut by_rounds(&cases, r)));
         println!("{} answers the same", same + by_rounds.iter().sum::<usize>());
         blocks::keep_the_bound();
+        desks::keep_the_bound();
         return;
     }
     let counted = measure::instructions(&["--once"], jobs.len(), &profiled(&cases, &calls));
@@ -179,4 +206,5 @@ fn measure_calls(asked: &[&str]) {
     report::excess(&cases[..short_or_vias], &SHARES);
     measure_rounds();
     measure_blocks();
+    measure_desks();
 }

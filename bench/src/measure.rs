@@ -179,9 +179,11 @@ fn called(folder: &Path, arguments: &[&str]) -> Option<()> {
     Some(())
 }
 
+/// What was executed within the count. (The line `totals` adds up the rest of the dump, where a block of a function that
+/// was called before the count began may stand with all that it executed since the start.)
 fn total(dump: &str) -> u64 {
-    let totals = dump.lines().find_map(|line| line.strip_prefix("totals: ")).expect("a line of totals");
-    totals.trim().parse().expect("a number of instructions")
+    let summary = dump.lines().find_map(|line| line.strip_prefix("summary: ")).expect("a summary");
+    summary.trim().parse().expect("a number of instructions")
 }
 
 /// A dump names functions once, as `fn=(7) name`, and by number after that. A line with a place and a number is the cost

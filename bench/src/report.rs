@@ -1,6 +1,7 @@
 //! The tables that are printed, in the form in which docs/SPEED.md shows them.
 
 use crate::blocks::Block;
+use crate::desks;
 use crate::families::Case;
 use crate::library::{self, Planned, Refusal, MOST_ROUNDS};
 use crate::measure::{Call, Profile};
@@ -119,6 +120,30 @@ pub fn blocks(rows: &[Block], measured: &[Measured]) {
         println!(
             "| {name} | {nets} | {report} | {apart} | {factor} | {report_time:.1} | {apart_time:.1} | {by_time:.2} |"
         );
+    }
+    println!();
+}
+
+/// The calls on the desk of each net, as `desks::Call::ALL` has them: by instructions, if they were counted, and by time.
+pub fn desks(nets: &[Case], measured: &[Measured]) {
+    let counted = measured.iter().map(|row| row.0.map(|both| both.map(|count| count as f64)));
+    let timed: Vec<[f64; 2]> = measured.iter().map(|row| row.1.map(micro)).collect();
+    if let Some(counted) = counted.collect::<Option<Vec<[f64; 2]>>>() {
+        of_desks("instructions", nets, &counted, 0);
+    }
+    of_desks("µs", nets, &timed, 2);
+}
+
+/// A row for each net: opening beside checking it, the changes, and reading beside judging.
+fn of_desks(unit: &str, nets: &[Case], numbers: &[[f64; 2]], places: usize) {
+    println!("| net, {unit} | bytes | open | check | ratio | set | lock | unlock | read | judge | ratio |");
+    println!("|---|{}", "---:|".repeat(10));
+    for (net, calls) in nets.iter().zip(numbers.chunks(desks::Call::ALL.len())) {
+        let alone = |[own, _]: [f64; 2]| format!("{own:.places$}");
+        let beside = |[own, other]: [f64; 2]| format!("{own:.places$} | {other:.places$} | {:.3}", own / other);
+        let changes: Vec<String> = calls[1..4].iter().map(|&change| alone(change)).collect();
+        let (open, changes, read) = (beside(calls[0]), changes.join(" | "), beside(calls[4]));
+        println!("| {} | {} | {open} | {changes} | {read} |", net.name, net.bytes.len());
     }
     println!();
 }

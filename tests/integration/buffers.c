@@ -1,5 +1,5 @@
-/* What may be lent to a call: bytes at any address, nothing at all, the same bytes twice where they are only read, and
- * lengths that 32 bits do not hold.
+/* What may be lent to a call: bytes at any address, nothing at all, the same bytes twice where they are only read,
+ * desks wherever their alignment allows, moved and copied, and lengths and numbers that 32 bits do not hold.
  *
  *     buffers NET
  *
@@ -65,6 +65,18 @@ static int reports(const uint8_t *block, size_t len, int refusal, uint64_t nets,
     return totals.refusal == refusal && totals.nets == nets && totals.planned == nets && totals.cost == due;
 }
 
+static int opens(struct vorphiel_desk *desk, const uint8_t *bytes, size_t len, int refusal, uint64_t due)
+{
+    struct vorphiel_checked counts = vorphiel_desk_open(desk, bytes, len);
+    return counts.refusal == refusal && counts.stages == due && counts.layers == due;
+}
+
+static int reads(const struct vorphiel_desk *desk, int refusal, uint64_t due)
+{
+    struct vorphiel_judged judged = vorphiel_desk_read(desk);
+    return judged.refusal == refusal && judged.cost == due;
+}
+
 /* ---- Bytes at any address ---- */
 
 /* Makes a block of the net. Gives its length. */
@@ -92,6 +104,8 @@ static void any_address(void)
         expect(plans_rounds(own, net->len, table, FEW, plan + at, STAGES, 0, 32), "by rounds too");
         expect(plan[at] == 1 && plan[at + 1] == 0, "it is the plan 1 0 by rounds too");
         expect(reports(block, len, 0, 1, 35), "a block is read at every address");
+        struct vorphiel_desk desk = {0};
+        expect(opens(&desk, own, net->len, 0, STAGES) && reads(&desk, 0, 22), "a net is opened at every address");
     }
 }
 
@@ -113,6 +127,8 @@ static void nothing_at(uint8_t *bytes, int64_t *entries)
     expect(plans_rounds(own, len, entries, 0, plan, STAGES, 12, 0), "no table is refused with 12, by rounds");
     expect(plan[0] == 77 && plan[1] == 77, "a refusal leaves the plan buffer");
     expect(reports(bytes, 0, 0, 0, 0), "no bytes are a block of no nets");
+    struct vorphiel_desk desk = {0};
+    expect(opens(&desk, bytes, 0, 1, 0) && reads(&desk, 16, 0), "opening no net is refused with 1, and nothing opened");
 }
 
 static void nothing(void)
@@ -142,6 +158,74 @@ static void read_twice(void)
     expect(judges(net->bytes, net->len, net->bytes, net->len, 7, 0), "net and plan may be the same bytes");
 }
 
+/* ---- Desks ---- */
+
+enum { WAY = 8 * VORPHIEL_DESK_ALIGNMENT, MARK = 0xA5 };
+
+/* Whether so many bytes are all marks. */
+static int marks(const uint8_t *bytes, size_t len)
+{
+    for (size_t i = 0; i < len; i++)
+        if (bytes[i] != MARK)
+            return 0;
+    return 1;
+}
+
+/* A desk that is moved from one address to the next, all that its alignment allows: it goes on as before, what stands
+ * beside it stays, and it can be opened anew at each. */
+static void moved_desk(void)
+{
+    static _Alignas(WAY) uint8_t bytes[WAY + sizeof(struct vorphiel_desk) + WAY];
+    struct vorphiel_desk desk = {0};
+    uint64_t layer = 0, cost = 22;
+    expect(opens(&desk, net->bytes, net->len, 0, STAGES) && vorphiel_desk_lock(&desk, 0) == 0, "a desk is opened");
+    for (size_t at = 0; at <= WAY; at += VORPHIEL_DESK_ALIGNMENT) {
+        struct vorphiel_desk *moved = (struct vorphiel_desk *)(void *)(bytes + at);
+        memset(bytes, MARK, sizeof bytes);
+        memcpy(bytes + at, &desk, sizeof desk);
+        expect(reads(moved, 0, cost) && vorphiel_desk_set(moved, 0, 1) == 17, "plan and locks are moved with a desk");
+        layer = 1 - layer;
+        cost = layer == 1 ? 35 : 22;
+        expect(vorphiel_desk_set(moved, 1, layer) == 0 && reads(moved, 0, cost), "a stage is set there");
+        expect(vorphiel_desk_lock(moved, 1) == 0 && vorphiel_desk_set(moved, 1, layer) == 17, "it is locked there");
+        expect(vorphiel_desk_unlock(moved, 1) == 0, "it is unlocked there");
+        memcpy(&desk, bytes + at, sizeof desk);
+        expect(opens(moved, net->bytes, net->len, 0, STAGES) && reads(moved, 0, 22), "a desk is opened anew there");
+        expect(vorphiel_desk_set(moved, 0, 1) == 0, "then nothing is locked");
+        expect(marks(bytes, at) && marks(bytes + at + sizeof desk, 2 * WAY - at), "what is beside a desk stays");
+    }
+}
+
+/* An earlier copy is a desk by itself, and is put back. */
+static void earlier_desk(void)
+{
+    struct vorphiel_desk desk = {0}, earlier = desk;
+    opens(&desk, net->bytes, net->len, 0, STAGES);
+    expect(reads(&earlier, 16, 0), "the copy of a desk never opened was never opened");
+    vorphiel_desk_set(&desk, 1, 1);
+    earlier = desk;
+    expect(vorphiel_desk_set(&desk, 0, 1) == 0 && vorphiel_desk_lock(&desk, 1) == 0, "a desk goes on beside its copy");
+    expect(reads(&desk, 0, 45) && reads(&earlier, 0, 35), "each has its plan");
+    expect(vorphiel_desk_set(&desk, 1, 0) == 17 && vorphiel_desk_set(&earlier, 1, 0) == 0, "each has its locks");
+    desk = earlier;
+    expect(vorphiel_desk_set(&desk, 1, 1) == 0 && reads(&desk, 0, 35), "a copy that was put back goes on as before");
+    expect(reads(&earlier, 0, 22), "and the copy stays");
+}
+
+/* Stage and layer numbers that cut to 8 or 32 bits would be in range. */
+static void far_numbers(void)
+{
+    const uint64_t fars[] = {(uint64_t)1 << 8, (uint64_t)1 << 32, (uint64_t)1 << 63};
+    struct vorphiel_desk desk = {0};
+    opens(&desk, net->bytes, net->len, 0, STAGES);
+    struct vorphiel_desk before = desk;
+    for (size_t i = 0; i < 3; i++) {
+        expect(vorphiel_desk_set(&desk, fars[i], 1) == 7 && vorphiel_desk_set(&desk, 1, fars[i]) == 8, "far numbers");
+        expect(vorphiel_desk_lock(&desk, fars[i]) == 7 && vorphiel_desk_unlock(&desk, fars[i]) == 7, "far stages");
+    }
+    expect(memcmp(&desk, &before, sizeof desk) == 0, "a refused call keeps the desk");
+}
+
 /* ---- Lengths ---- */
 
 /* A table is counted in entries: 132 of them are just enough for net B at share 0. */
@@ -169,6 +253,8 @@ static void beyond_32_bits(void)
     expect(judges(net->bytes, net->len, bytes, far + STAGES, 7, 0), "a long plan is refused with 7");
     memcpy(bytes, net->bytes, net->len);
     expect(checks(bytes, far + net->len, 2, 0), "zeros behind a net are refused with 2");
+    struct vorphiel_desk desk = {0};
+    expect(opens(&desk, bytes, far + net->len, 15, 0) && reads(&desk, 16, 0), "a long net is refused with 15");
     expect(reports(bytes, far + block_into(bytes), 13, 0, 0), "zeros behind a block are refused with 13");
     munmap(bytes, most);
 }
@@ -181,6 +267,9 @@ int main(int count, char **arguments)
     any_address();
     nothing();
     read_twice();
+    moved_desk();
+    earlier_desk();
+    far_numbers();
     counted_in_entries();
     beyond_32_bits();
     free(net);

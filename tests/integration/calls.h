@@ -15,31 +15,51 @@ enum {
     MOST_NUMBERS = 40,
 };
 
-/* The bytes of a file, which every call is given: as a net, or as a block. If they are a net, its stages. */
+/* The bytes of a file, which every call is given: as a net, or as a block. If they are a net, its stages; and if a desk
+ * takes it, a desk with it, stage 0 locked on the last layer. */
 struct input {
     const char *name;
     uint8_t bytes[MOST_BYTES];
     size_t len;
     size_t stages;
+    struct vorphiel_desk desk;
 };
 
 /* What a call may write into, beside its results. */
 struct room {
     int64_t table[ENTRIES];
     uint8_t plan[MOST_STAGES];
+    struct vorphiel_desk desk;
 };
 
-/* What a call gave: its numbers in turn, and what is in the plan buffer then. */
+/* What a call gave: its numbers in turn, and what is in the plan buffer and on the desk then. */
 struct answer {
     uint64_t numbers[MOST_NUMBERS];
     size_t count;
     uint8_t plan[MOST_STAGES];
+    struct vorphiel_desk desk;
 };
 
-enum call { CHECK, JUDGE, PLAN, PLAN_ROUNDS, TABLE_ENTRIES, REPORT, VERSION, CALLS };
+enum call {
+    CHECK,
+    JUDGE,
+    PLAN,
+    PLAN_ROUNDS,
+    TABLE_ENTRIES,
+    REPORT,
+    DESK_SIZE,
+    DESK_OPEN,
+    DESK_SET,
+    DESK_LOCK,
+    DESK_UNLOCK,
+    DESK_READ,
+    VERSION,
+    CALLS
+};
 
-static const char *const call_names[CALLS] = {"check",         "judge",  "plan",   "plan_rounds",
-                                              "table_entries", "report", "version"};
+static const char *const call_names[CALLS] = {"check",       "judge",     "plan",      "plan_rounds", "table_entries",
+                                              "report",      "desk_size", "desk_open", "desk_set",    "desk_lock",
+                                              "desk_unlock", "desk_read", "version"};
 
 /* Ends the program: it could not be run. */
 static inline void give_up(const char *why)
@@ -60,6 +80,9 @@ static inline struct input *read_input(const char *name)
     uint64_t nodes, stages, layers;
     vorphiel_check(input->bytes, input->len, &nodes, &stages, &layers);
     input->stages = stages;
+    vorphiel_desk_open(&input->desk, input->bytes, input->len);
+    vorphiel_desk_set(&input->desk, 0, layers - 1);
+    vorphiel_desk_lock(&input->desk, 0);
     return input;
 }
 
@@ -80,6 +103,30 @@ static inline void put_totals(struct answer *answer, const struct vorphiel_total
     put_all(answer, some, 4);
     put_all(answer, totals->refused, 13);
     put_all(answer, totals->lengths, 16);
+}
+
+/* Makes one call for a desk: it gives the size, opens the room's, reads the input's, or changes a copy of that. */
+static inline void make_desk_call(enum call call, const struct input *input, struct room *room, struct answer *answer)
+{
+    struct vorphiel_desk *desk = &room->desk;
+    if (call == DESK_OPEN) {
+        struct vorphiel_checked counts = vorphiel_desk_open(desk, input->bytes, input->len);
+        put_all(answer, (const uint64_t[]){counts.refusal, counts.nodes, counts.stages, counts.layers}, 4);
+        return;
+    }
+    if (call == DESK_READ) {
+        struct vorphiel_judged judged = vorphiel_desk_read(&input->desk);
+        put_all(answer, (const uint64_t[]){judged.refusal, judged.cost, (uint64_t)judged.slack}, 3);
+        return;
+    }
+    if (call == DESK_SIZE) {
+        put(answer, vorphiel_desk_size());
+        return;
+    }
+    *desk = input->desk;
+    put(answer, call == DESK_SET    ? vorphiel_desk_set(desk, input->stages - 1, 1)
+                : call == DESK_LOCK ? vorphiel_desk_lock(desk, input->stages - 1)
+                                    : vorphiel_desk_unlock(desk, 0));
 }
 
 /* Makes one call: judging all stages on layer 0, planning with share 1/4, as many of 29 rounds as the table has room
@@ -115,18 +162,22 @@ static inline void make_call(enum call call, const struct input *input, struct r
         put_totals(answer, &totals);
         break;
     }
-    default:
+    case VERSION:
         of[0] = vorphiel_version();
+        break;
+    default:
+        make_desk_call(call, input, room, answer);
     }
     put_all(answer, of, 5);
     put(answer, (uint64_t)slack);
     memcpy(answer->plan, room->plan, MOST_STAGES);
+    answer->desk = room->desk;
 }
 
 static inline int same_answer(const struct answer *a, const struct answer *b)
 {
     return a->count == b->count && memcmp(a->numbers, b->numbers, sizeof a->numbers) == 0
-           && memcmp(a->plan, b->plan, MOST_STAGES) == 0;
+           && memcmp(a->plan, b->plan, MOST_STAGES) == 0 && memcmp(&a->desk, &b->desk, sizeof a->desk) == 0;
 }
 
 #endif

@@ -12,6 +12,9 @@ using Bytes = std::vector<uint8_t>;
 
 static std::vector<int64_t> table(200);
 
+static_assert(sizeof(vorphiel_desk) == VORPHIEL_DESK_SIZE, "a desk has the size that the header says");
+static_assert(alignof(vorphiel_desk) == VORPHIEL_DESK_ALIGNMENT, "a desk has the alignment that the header says");
+
 static void check(const Bytes &net)
 {
     uint64_t nodes, stages, layers;
@@ -68,6 +71,26 @@ static void report(const Bytes &net)
               << " cost " << totals.cost << " lengths " << totals.lengths[0] << " " << totals.lengths[1] << "\n";
 }
 
+static void show(const char *call, int refusal, const vorphiel_desk &desk)
+{
+    std::cout << "desk_" << call << " " << refusal << " plan " << int(desk.plan[0]) << " " << int(desk.plan[1])
+              << " locks " << int(desk.locks[0]) << " " << int(desk.locks[1]) << "\n";
+}
+
+static void work_at_desk(const Bytes &net)
+{
+    vorphiel_desk desk{};
+    vorphiel_checked opened = vorphiel_desk_open(&desk, net.data(), net.size());
+    std::cout << "desk_open " << int(opened.refusal) << " nodes " << opened.nodes << " stages " << opened.stages
+              << " layers " << opened.layers << "\n";
+    show("set", vorphiel_desk_set(&desk, 1, 1), desk);
+    show("lock", vorphiel_desk_lock(&desk, 1), desk);
+    show("set", vorphiel_desk_set(&desk, 1, 0), desk);
+    show("unlock", vorphiel_desk_unlock(&desk, 1), desk);
+    vorphiel_judged judged = vorphiel_desk_read(&desk);
+    std::cout << "desk_read " << int(judged.refusal) << " cost " << judged.cost << " slack " << judged.slack << "\n";
+}
+
 int main(int count, char **arguments)
 {
     if (count != 2)
@@ -80,6 +103,8 @@ int main(int count, char **arguments)
     plan_rounds(net);
     std::cout << "table_entries " << vorphiel_table_entries(2, 4) << "\n";
     report(net);
+    std::cout << "desk_size " << vorphiel_desk_size() << "\n";
+    work_at_desk(net);
     std::cout << "version " << vorphiel_version() << "\n";
-    return vorphiel_version() == VORPHIEL_VERSION ? 0 : 1;
+    return vorphiel_version() == VORPHIEL_VERSION && vorphiel_desk_size() == VORPHIEL_DESK_SIZE ? 0 : 1;
 }

@@ -10,6 +10,7 @@ import sys
 from ctypes import byref, c_int64, c_size_t, c_uint8, c_uint64, c_void_p
 
 ENTRIES = 200
+DESK_ALIGNMENT = 8
 
 
 class Totals(ctypes.Structure):
@@ -25,6 +26,31 @@ class Totals(ctypes.Structure):
     ]
 
 
+class Desk(ctypes.Structure):
+    """struct vorphiel_desk"""
+
+    _fields_ = [
+        ("used", c_uint64),
+        ("stages", c_uint64),
+        ("layers", c_uint64),
+        ("net", c_uint8 * 4096),
+        ("plan", c_uint8 * 64),
+        ("locks", c_uint8 * 64),
+    ]
+
+
+class Checked(ctypes.Structure):
+    """struct vorphiel_checked"""
+
+    _fields_ = [("refusal", c_uint8), ("nodes", c_uint64), ("stages", c_uint64), ("layers", c_uint64)]
+
+
+class Judged(ctypes.Structure):
+    """struct vorphiel_judged"""
+
+    _fields_ = [("refusal", c_uint8), ("cost", c_uint64), ("slack", c_int64)]
+
+
 def loaded(name):
     """The library, with what each call takes and gives."""
     library = ctypes.CDLL(name)
@@ -36,6 +62,12 @@ def loaded(name):
         ("vorphiel_plan_rounds", lent + number + lent * 2 + [c_void_p] * 4, c_uint8),
         ("vorphiel_table_entries", number * 2, c_uint64),
         ("vorphiel_report", lent, Totals),
+        ("vorphiel_desk_size", [], c_uint64),
+        ("vorphiel_desk_open", [c_void_p] + lent, Checked),
+        ("vorphiel_desk_set", [c_void_p] + number * 2, c_uint8),
+        ("vorphiel_desk_lock", [c_void_p] + number, c_uint8),
+        ("vorphiel_desk_unlock", [c_void_p] + number, c_uint8),
+        ("vorphiel_desk_read", [c_void_p], Judged),
         ("vorphiel_version", [], c_uint64),
     ]:
         getattr(library, call).argtypes = takes
@@ -51,6 +83,27 @@ def said(call, refusal, **results):
 def results(kinds):
     """Room for results, by their names: i for a number that may be negative, u for the others."""
     return {name: c_int64() if kind == "i" else c_uint64() for name, kind in kinds.items()}
+
+
+def answered(call, answer):
+    """A line for a call that answers by a structure, its refusal number first."""
+    names = [name for name, _ in answer._fields_[1:]]
+    print(call, answer.refusal, *(f"{name} {getattr(answer, name)}" for name in names))
+
+
+def work_at_desk(library, net):
+    """Opens a desk in as many bytes as the library says, at an address for numbers of 64 bits; each change."""
+    size = library.vorphiel_desk_size()
+    print("desk_size", size)
+    if (ctypes.sizeof(Desk), ctypes.alignment(Desk)) != (size, DESK_ALIGNMENT):
+        sys.exit("host.py: a desk of another size or alignment than the library's")
+    lent = (c_uint64 * (size // 8))()
+    seen = Desk.from_buffer(lent)
+    answered("desk_open", library.vorphiel_desk_open(lent, net, len(net)))
+    for call, numbers in [("set", [1, 1]), ("lock", [1]), ("set", [1, 0]), ("unlock", [1])]:
+        refusal = getattr(library, "vorphiel_desk_" + call)(lent, *numbers)
+        print(f"desk_{call}", refusal, "plan", *seen.plan[:2], "locks", *seen.locks[:2])
+    answered("desk_read", library.vorphiel_desk_read(lent))
 
 
 def main():
@@ -72,6 +125,7 @@ def main():
     totals = library.vorphiel_report(block, len(block))
     print("report", totals.refusal, "nets", totals.nets, "planned", totals.planned, "cost", totals.cost, end=" ")
     print("lengths", *totals.lengths[:2])
+    work_at_desk(library, net)
     print("version", library.vorphiel_version())
 
 

@@ -4,8 +4,9 @@
  *
  * First every call is made on the bytes of every file in turn. Then THREADS threads make all these calls at once, so
  * many times; each begins with another file, so that at any time different inputs are worked on, and the same ones too.
- * The threads have a stack of 256 kB each, and share nothing but the inputs, which are only read. Status 0: every
- * answer is that which the call gave alone. The others are printed. */
+ * The threads have a stack of 256 kB each, and share nothing but the inputs, which are only read: bytes and desks. The
+ * desks that they change are their own. Status 0: every answer is that which the call gave alone. The others are
+ * printed. */
 #define _DEFAULT_SOURCE
 #include "calls.h"
 

@@ -92,7 +92,7 @@ impl Planning for Rounds {
     }
 
     fn count(self, met: &mut Met, case: &Case, table_len: usize, answer: RoundsPlanned) {
-        met.count(case, self.r, table_len, answer);
+        met.rounds.count(case, self.r, table_len, answer);
     }
 }
 

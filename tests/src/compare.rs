@@ -3,7 +3,9 @@
 use crate::asked::{Asked, Left, Planning, Rounds, Share};
 use crate::block::Block;
 use crate::by_front::Fronts;
-use crate::host::{Host, Interface};
+use crate::c_calls::DeskRecord;
+use crate::desk::{Desks, Run, Step};
+use crate::host::{desk_bytes, Host, Interface, DESK_SIZE};
 use crate::met::Met;
 use crate::nets::Random;
 use crate::plain::{self, Checked, Enumeration, Judged, Net, RoundsPlanned, Search};
@@ -143,11 +145,13 @@ pub struct Comparison {
     trace: bool,
     /// The kinds of calls that were made, where they are counted.
     pub met: Option<Met>,
+    /// Whether runs on desks that fail are cut down.
+    pub cuts: bool,
 }
 
 impl Comparison {
     pub fn new(interface: Interface, trace: bool) -> Comparison {
-        Comparison { host: Host::new(interface), passed: 0, noise: Random::new(77), trace, met: None }
+        Comparison { host: Host::new(interface), passed: 0, noise: Random::new(77), trace, met: None, cuts: true }
     }
 
     /// Check, against the plain search.
@@ -253,6 +257,51 @@ impl Comparison {
         let (expected, found) = (&block.totals, self.host.report(&block.bytes));
         let faults = block.faults(&found);
         self.settle(call, &block.bytes, faults, || format!("expected: {expected:?}\nfound:    {found:?}"))
+    }
+
+    /// The size of a desk, against the header.
+    pub fn desk_size(&mut self) -> Outcome {
+        let call = || String::from("desk size");
+        self.say(call, &[]);
+        let found = self.host.desk_size();
+        let faults = if found == DESK_SIZE as u64 { vec![] } else { vec![String::from("the answer")] };
+        self.settle(call, &[], faults, || format!("expected: {DESK_SIZE}\nfound:    {found}"))
+    }
+
+    /// A run of calls on a desk, against the second implementation's desk. Every call counts; a run that fails is cut down.
+    pub fn desk_run(&mut self, run: &Run) -> Outcome {
+        let trace = self.trace;
+        let say = |step: &Step| {
+            if trace {
+                eprintln!("desk, {}: {}\n  net {}", run.name, step.words(), hex(step.net()));
+            }
+        };
+        let Some(fault) = run.fault(&mut self.host, say) else {
+            self.passed += run.calls_before(run.steps.len()) as u64;
+            if let Some(met) = &mut self.met {
+                met.desks.count(run);
+            }
+            return Ok(());
+        };
+        self.passed += run.calls_before(fault.place) as u64;
+        let call = format!("desk, {}, line {}: {}", run.name, fault.place + 1, run.steps[fault.place].words());
+        let short = if self.cuts { run.cut(fault.place, &mut self.host) } else { None };
+        let told = short.map_or_else(|| run.report(&fault), |(short, fault)| short.report(&fault));
+        Err(Failure { report: format!("FAILED call {}: {call}\n{told}", self.passed + 1), call })
+    }
+
+    /// A call on a record with anything in it: "whatever else a host wrote there, no call reads or writes beyond the desk,
+    /// and each answers with results or with one of 1 to 8 and 15 to 17".
+    pub fn desk_of_rubbish(&mut self, name: &str, record: &DeskRecord, step: &Step) -> Outcome {
+        let call = || format!("desk, {name}: {}", step.words());
+        self.say(call, step.net());
+        let found = Desks::new(*record).put_to(&mut self.host, step);
+        let faults = broken(&[
+            (matches!(found.refusal(), 0..=8 | 15..=17), "a number that no call on a desk gives"),
+            (found.refusal() == 0 || found.is_bare(), "results beside a refusal"),
+        ]);
+        let details = || format!("desk:     {}\nfound:    {found:?}", hex(desk_bytes(record)));
+        self.settle(call, step.net(), faults, details)
     }
 
     /// The parameters of a planning call, with garbage in table and buffer.

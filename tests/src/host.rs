@@ -5,7 +5,12 @@
 //! write outside a buffer, or into one that is only to be read, is reported by `complaint`.
 
 use crate::c_calls::{Check, Judge, Plan, PlanRounds, Report, TableEntries, Totals};
+use crate::c_calls::{
+    DeskCounts, DeskFigures, DeskLock, DeskOpen, DeskRead, DeskRecord, DeskSet, DeskSize, DeskUnlock,
+};
 use crate::plain::{Checked, Judged, Planned, RoundsPlanned};
+use std::mem::size_of;
+use std::slice::from_raw_parts;
 
 /// The calls of an implementation, each a function of the C function's parameters.
 #[derive(Clone, Copy)]
@@ -16,6 +21,12 @@ pub struct Interface {
     pub plan_rounds: unsafe fn(PlanRounds) -> u8,
     pub table_entries: unsafe fn(TableEntries) -> u64,
     pub report: unsafe fn(Report) -> Totals,
+    pub desk_size: unsafe fn(DeskSize) -> u64,
+    pub desk_open: unsafe fn(DeskOpen) -> DeskCounts,
+    pub desk_set: unsafe fn(DeskSet) -> u8,
+    pub desk_lock: unsafe fn(DeskLock) -> u8,
+    pub desk_unlock: unsafe fn(DeskUnlock) -> u8,
+    pub desk_read: unsafe fn(DeskRead) -> DeskFigures,
 }
 
 /// The linked library's.
@@ -28,6 +39,12 @@ pub fn linked() -> Option<Interface> {
         plan_rounds: PlanRounds::make,
         table_entries: TableEntries::make,
         report: Report::make,
+        desk_size: DeskSize::make,
+        desk_open: DeskOpen::make,
+        desk_set: DeskSet::make,
+        desk_lock: DeskLock::make,
+        desk_unlock: DeskUnlock::make,
+        desk_read: DeskRead::make,
     })
 }
 
@@ -45,6 +62,7 @@ const NET_EDGE: u8 = 0xC3;
 const PLAN_EDGE: u8 = 0x3C;
 const TABLE_EDGE: i64 = 0x0123_4567_89AB_CDEF;
 const RESULT_EDGE: u64 = 0xFEDC_BA98_7654_3210;
+const DESK_EDGE: u64 = 0x89AB_CDEF_FEDC_BA98;
 
 /// A result before the call.
 const RUBBISH: u64 = 0x5A5A_A5A5_1234_8765;
@@ -88,6 +106,26 @@ impl<T: Copy + PartialEq> Lent<T> {
 /// A result of a call, rubbish at first.
 fn result(name: &'static str) -> Lent<u64> {
     Lent::new(name, &[RUBBISH], RESULT_EDGE)
+}
+
+/// The size of a desk that include/vorphiel.h states.
+pub const DESK_SIZE: usize = 4_248;
+
+// A desk's record is whole words, and its numbers leave no gap: to compare them is to compare every byte.
+const _: () =
+    assert!(size_of::<DeskRecord>() == DESK_SIZE && DESK_SIZE == 3 * 8 + 4_096 + 2 * 64 && DESK_SIZE % 8 == 0);
+
+/// A desk's record as raw bytes.
+pub fn desk_bytes(desk: &DeskRecord) -> &[u8] {
+    // Safe: as long as the record, which has no gap.
+    unsafe { from_raw_parts((desk as *const DeskRecord).cast(), DESK_SIZE) }
+}
+
+/// A copy of a desk's record, in words as it must be aligned.
+fn lent_desk(desk: &DeskRecord) -> Lent<u64> {
+    // Safe: as above, and aligned as words are.
+    let words = unsafe { from_raw_parts((desk as *const DeskRecord).cast(), DESK_SIZE / 8) };
+    Lent::new("desk", words, DESK_EDGE)
 }
 
 /// What a planning call is lent.
@@ -220,6 +258,59 @@ impl Host {
         let totals = unsafe { (self.interface.report)(call) };
         self.complaint = lent.written(block);
         totals
+    }
+
+    /// Nothing is lent here either.
+    pub fn desk_size(&mut self) -> u64 {
+        // Safe: no parameters.
+        unsafe { (self.interface.desk_size)(DeskSize {}) }
+    }
+
+    pub fn desk_open(&mut self, desk: &mut DeskRecord, net: &[u8]) -> Checked {
+        let (mut lent, open) = (Lent::new("net", net, NET_EDGE), self.interface.desk_open);
+        let start = lent.start();
+        // Safe: as in `check`, and desk and net do not overlap.
+        let counts = self.altering(desk, |desk| unsafe { open(DeskOpen { desk, net: start, net_len: net.len() }) });
+        self.complaint = self.complaint.take().or_else(|| lent.written(net));
+        let DeskCounts { refusal, nodes, stages, layers } = counts;
+        Checked { refusal, nodes, stages, layers }
+    }
+
+    pub fn desk_set(&mut self, desk: &mut DeskRecord, stage: u64, layer: u64) -> u8 {
+        let set = self.interface.desk_set;
+        // Safe: as above.
+        self.altering(desk, |desk| unsafe { set(DeskSet { desk, stage, layer }) })
+    }
+
+    pub fn desk_lock(&mut self, desk: &mut DeskRecord, stage: u64) -> u8 {
+        let lock = self.interface.desk_lock;
+        // Safe: as above.
+        self.altering(desk, |desk| unsafe { lock(DeskLock { desk, stage }) })
+    }
+
+    pub fn desk_unlock(&mut self, desk: &mut DeskRecord, stage: u64) -> u8 {
+        let unlock = self.interface.desk_unlock;
+        // Safe: as above.
+        self.altering(desk, |desk| unsafe { unlock(DeskUnlock { desk, stage }) })
+    }
+
+    /// Reading, too, may alter the record that it is lent: for the caller to see.
+    pub fn desk_read(&mut self, desk: &mut DeskRecord) -> Judged {
+        let read = self.interface.desk_read;
+        // Safe: as above.
+        let DeskFigures { refusal, cost, slack } = self.altering(desk, |desk| unsafe { read(DeskRead { desk }) });
+        Judged { refusal, cost, slack }
+    }
+
+    /// Lends a desk to a call, each time at another place, and gives it back as the call left it.
+    fn altering<A>(&mut self, desk: &mut DeskRecord, call: impl FnOnce(*mut DeskRecord) -> A) -> A {
+        let mut lent = lent_desk(desk);
+        let start: *mut DeskRecord = lent.start().cast();
+        let answer = call(start);
+        // Safe: a record of numbers, any of which may stand there.
+        *desk = unsafe { start.read() };
+        self.complaint = lent.beside();
+        answer
     }
 
     /// The results of a call.

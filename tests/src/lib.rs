@@ -6,6 +6,8 @@ pub mod by_front;
 #[path = "../../hosts/c_calls.rs"]
 pub mod c_calls;
 pub mod compare;
+pub mod cut;
+pub mod desk;
 pub mod host;
 pub mod loads;
 pub mod met;

@@ -5,9 +5,10 @@
 //!     vorphiel-tests --self [SEED [COUNT]]
 //!                                     no library: the plain search, the search by fronts and a third one, compared with
 //!                                     each other and with the stored answers; loads and edges of stages in several ways;
-//!                                     and whether every kind of call by rounds was made
-//!     vorphiel-tests --mutants        no library: wrong planners in its place; says which call exposed each. And wrong
-//!                                     walks in the place of try_loads; says which net exposed each
+//!                                     and whether every kind of call by rounds and on desks was made
+//!     vorphiel-tests --mutants        no library: wrong planners in its place; says which call exposed each. Wrong desks,
+//!                                     each once more by long runs of calls alone, cut down to a few lines. And wrong walks
+//!                                     in the place of try_loads; says which net exposed each
 //!     vorphiel-tests --answers FILE   stored answers (see `stored`) with those of the library in their place
 //!     vorphiel-tests --blocks DIR COUNT
 //!                                     no library: writes blocks for the program block_report, each with its text
@@ -28,12 +29,15 @@ use vorphiel_tests::met::Met;
 use vorphiel_tests::plain::{self, Search};
 use vorphiel_tests::runs::stored::{Stored, LENGTHS_TO_1000, WITHOUT_VIAS};
 use vorphiel_tests::wrong::{self, Mistake, Walk};
-use vorphiel_tests::{by_front, nets, runs, stored};
+use vorphiel_tests::{by_front, cut, nets, runs, stored};
 
 /// Without arguments: this seed and this many random nets; fewer for wrong planners, which must be exposed soon.
 const SEED: u64 = 1;
 const COUNT: usize = 900;
 const MUTANTS_COUNT: usize = 200;
+
+/// Long runs of calls on desks, of which some must expose each wrong desk.
+const LONG_RUNS: usize = 200;
 
 /// What the command line asks.
 struct Options {
@@ -212,6 +216,9 @@ const ALL: Set = |comparison, options| runs::all(comparison, options.seed, optio
 const ROUNDS: Set = |comparison, options| runs::rounds::all(comparison, options.seed, options.count);
 const ROUNDS_LAW: Set = |comparison, _| runs::rounds::law(comparison);
 
+/// And runs of calls on desks.
+const DESKS: Set = |comparison, options| runs::desk::all(comparison, options.seed, options.count);
+
 /// A file of stored answers, its calls, and the mistakes that they must expose alone.
 type StoredSet = (Stored, Set, fn() -> Vec<Mistake>);
 
@@ -268,8 +275,10 @@ fn compare_ourselves(options: &Options) -> bool {
     comparison.met = Some(Met::default());
     let right = told(run_over(&mut comparison, ALL, options), options);
     let (lines, met) = comparison.met.unwrap_or_default().told();
-    lines.iter().for_each(|line| println!("rounds, {line}"));
-    right && met && stored && loads.is_ok()
+    lines.iter().for_each(|line| println!("{line}"));
+    let cutting = cut::agreement();
+    println!("cutting runs down: {}", cutting.as_ref().unwrap_or_else(|fault| fault));
+    right && met && stored && loads.is_ok() && cutting.is_ok()
 }
 
 /// V(k) and the first plan for every k, by both searches, whole and stopped early; and the plan after some rounds, with
@@ -330,7 +339,7 @@ fn columns_bounded(each: &plain::Enumeration, s: usize) -> bool {
     })
 }
 
-/// Each wrong planner must be exposed, and the one without a mistake must not; and so each wrong walk.
+/// Each wrong planner must be exposed, and the one without a mistake must not; and so each wrong desk and each wrong walk.
 fn all_exposed(options: &Options) -> bool {
     let planners =
         |mistakes: Vec<Mistake>, set: Set| mistakes.into_iter().map(move |mistake| planner(mistake, set, options));
@@ -342,6 +351,8 @@ fn all_exposed(options: &Options) -> bool {
     }
     let rounds = exposed("by rounds alone, ", "planners", planners(Mistake::of_rounds(), ROUNDS))
         & exposed("by the law between rounds alone, ", "planners", planners(Mistake::on_rounds_law(), ROUNDS_LAW));
+    let desks = exposed("on desks, ", "desks", planners(Mistake::of_desks(), DESKS))
+        & exposed("on desks by long runs, ", "desks", by_long_runs(options));
     print!("no mistake: ");
     let right = told(run(wrong::interface(Mistake::None), ALL, options), options);
     let nets = runs::loads::for_program(options.seed, options.count);
@@ -349,17 +360,26 @@ fn all_exposed(options: &Options) -> bool {
     let walks = exposed("loads, ", "walks", Walk::wrong().into_iter().map(walk));
     let agreement = runs::loads::agreement(&nets);
     println!("loads, no mistake: {}", agreement.as_ref().unwrap_or_else(|fault| fault));
-    whole && stored && rounds && right && walks && agreement.is_ok()
+    whole && stored && rounds && desks && right && walks && agreement.is_ok()
 }
 
 /// A mistake in words, and by what it was exposed or what it passed.
 type Tried = (String, Result<String, String>);
 
-/// A planner with this mistake.
+/// A planner with this mistake. Of the call that exposes it one line is enough.
 fn planner(mistake: Mistake, set: Set, options: &Options) -> Tried {
-    let (passed, failure) = run(wrong::interface(mistake), set, options);
+    let mut comparison = Comparison::new(wrong::interface(mistake), options.trace);
+    comparison.cuts = false;
+    let (passed, failure) = run_over(&mut comparison, set, options);
     let call = failure.map(|failure| format!("call {}: {}", passed + 1, failure.call));
-    (mistake.words(), call.ok_or(format!("{passed} calls")))
+    (mistake.words(), call.ok_or(format!("{passed} calls passed")))
+}
+
+/// Each wrong desk on the same long runs, and the one that exposes it cut down.
+fn by_long_runs(options: &Options) -> impl Iterator<Item = Tried> {
+    let runs = runs::desk::long_runs(options.seed, LONG_RUNS);
+    let tried = move |mistake: Mistake| (mistake.words(), runs::desk::exposure(wrong::interface(mistake), &runs));
+    Mistake::of_desk_runs().into_iter().map(tried)
 }
 
 /// Was each of these exposed?
@@ -372,7 +392,7 @@ fn exposed(by: &str, what: &str, tried: impl Iterator<Item = Tried>) -> bool {
                 exposed += 1;
             }
             Err(passed) => {
-                println!("{by}NOT EXPOSED: {words}: {passed} passed");
+                println!("{by}NOT EXPOSED: {words}: {passed}");
                 missed += 1;
             }
         }

@@ -872,3 +872,90 @@ pub fn plan_rounds_net(net: &Net, search: &dyn Search, r: u64, table: &mut [i64]
         rounds: rounds.len() as u64,
     }
 }
+
+// ------------------------------------------------------------------------------------------------
+// 02, wish 8: a desk for hand changes
+// ------------------------------------------------------------------------------------------------
+
+/// "15 for a net above 4,096 bytes".
+pub const MOST_DESK_NET: usize = 4_096;
+
+/// "It has a copy of the net, a plan and a lock for each stage": "a list of layers and locks".
+#[derive(Clone)]
+pub struct Sheet {
+    pub net: Net,
+    pub plan: Vec<u8>,
+    pub locks: Vec<bool>,
+}
+
+/// A desk. Without a sheet it is "a desk never opened": a fresh one is.
+#[derive(Clone, Default)]
+pub struct Desk {
+    pub sheet: Option<Sheet>,
+}
+
+impl Desk {
+    /// "Opening takes net bytes and puts every stage on layer 0, unlocked; an open desk is replaced, a refused opening
+    /// changes nothing." "Opening gives the reader's counts". "15 for a net above 4,096 bytes, before 1 to 6".
+    pub fn open(&mut self, bytes: &[u8]) -> Checked {
+        if bytes.len() > MOST_DESK_NET {
+            return Checked { refusal: 15, ..Default::default() };
+        }
+        let counts = check(bytes);
+        if let Ok(net) = read(bytes) {
+            let s = stage_count(&net);
+            self.sheet = Some(Sheet { net, plan: vec![0; s], locks: vec![false; s] });
+        }
+        counts
+    }
+
+    /// "16 for any call but opening on a desk never opened, first; then 7 for a stage number not below s".
+    fn at_stage(&mut self, stage: u64) -> Result<(&mut Sheet, usize), u8> {
+        let sheet = self.sheet.as_mut().ok_or(16)?;
+        if stage as u128 >= stage_count(&sheet.net) as u128 {
+            return Err(7);
+        }
+        Ok((sheet, stage as usize))
+    }
+
+    /// "Setting moves one stage". "then 8 for a layer, then 17 for setting a locked stage."
+    fn moved(&mut self, stage: u64, layer: u64) -> Result<(), u8> {
+        let (sheet, stage) = self.at_stage(stage)?;
+        if layer as u128 >= sheet.net.layers.len() as u128 {
+            return Err(8);
+        }
+        if sheet.locks[stage] {
+            return Err(17);
+        }
+        sheet.plan[stage] = layer as u8;
+        Ok(())
+    }
+
+    /// "locking and unlocking mark one".
+    fn marked(&mut self, stage: u64, lock: bool) -> Result<(), u8> {
+        let (sheet, stage) = self.at_stage(stage)?;
+        sheet.locks[stage] = lock;
+        Ok(())
+    }
+
+    /// "the three changes give acceptance only".
+    pub fn set(&mut self, stage: u64, layer: u64) -> u8 {
+        self.moved(stage, layer).err().unwrap_or(0)
+    }
+
+    pub fn lock(&mut self, stage: u64) -> u8 {
+        self.marked(stage, true).err().unwrap_or(0)
+    }
+
+    pub fn unlock(&mut self, stage: u64) -> u8 {
+        self.marked(stage, false).err().unwrap_or(0)
+    }
+
+    /// "cost and slack may be read", "judged by the rules then in force".
+    pub fn read(&self) -> Judged {
+        match &self.sheet {
+            None => Judged { refusal: 16, ..Default::default() },
+            Some(sheet) => judge_net(&sheet.net, &sheet.plan),
+        }
+    }
+}

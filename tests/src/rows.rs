@@ -5,8 +5,9 @@ use crate::asked::{Planning, Rounds, Share};
 use crate::block::Block;
 use crate::c_calls::Totals;
 use crate::compare::{from_hex, Case, Comparison, Outcome};
+use crate::desk::{Answer, Named, Run, Step};
 use crate::nets::{a_of_length, block, equal_b, equal_on_three, line, net_a, net_b, rounded_b, turning_on_three};
-use crate::nets::{Draft, Kind};
+use crate::nets::{of_bytes, Draft, Kind};
 use crate::plain::{self, Checked, Judged, Planned, RoundsPlanned};
 
 /// Net A's bytes as 01 prints them.
@@ -23,7 +24,7 @@ const DRIVER: &str = "02 0010 00000001 00000000 0000000000000000";
 /// The slack of a line of 63 buffers on layer 0: 16 ticks are spent in stage 0, 17 in each of the others.
 const SLACK_63: i64 = 1_000_000_000_000_000 - 16 - 63 * 17;
 
-/// All rows but those of planning by rounds.
+/// All rows but those of planning by rounds and of desks.
 pub fn run(c: &mut Comparison) -> Outcome {
     reading_rows(c)?;
     judging_rows(c)?;
@@ -474,4 +475,71 @@ fn rounds_refused(c: &mut Comparison) -> Outcome {
         row_of(c, (&name, bytes), Rounds { r }, (table_len, buffer_len), said)?;
     }
     Ok(())
+}
+
+/// Desks: what 01 says of judging nets A and B is read there once their stages are set; and the order of the numbers of 02.
+pub fn desk(c: &mut Comparison) -> Outcome {
+    desk_row(c, "row: A and B", read_rows())?;
+    desk_row(c, "row: numbers", refused_rows())
+}
+
+fn desk_row(c: &mut Comparison, name: &str, rows: Vec<(Step, Answer)>) -> Outcome {
+    let (steps, answers): (Vec<Step>, Vec<Answer>) = rows.into_iter().unzip();
+    let run = Run::new(name, &steps);
+    assert_eq!(run.answers().collect::<Vec<Answer>>(), answers, "{name}");
+    c.desk_run(&run)
+}
+
+fn opened(name: &str, bytes: Vec<u8>, refusal: u8, [nodes, stages, layers]: [u64; 3]) -> (Step, Answer) {
+    (Step::Open(Named::new(name, bytes)), Answer::Counts(Checked { refusal, nodes, stages, layers }))
+}
+
+fn read_rows() -> Vec<(Step, Answer)> {
+    let accepted = |step: Step| (step, Answer::Number(0));
+    let figures = |cost, slack| (Step::Read, Answer::Figures(Judged { refusal: 0, cost, slack }));
+    vec![
+        opened("B", net_b().bytes(), 0, [3, 2, 2]),
+        figures(22, -600),
+        accepted(Step::Set(0, 1)),
+        figures(32, 0),
+        accepted(Step::Set(1, 1)),
+        accepted(Step::Lock(0)),
+        figures(45, 600),
+        // "a refused opening changes nothing".
+        opened("64 buffers", line(64, 0).bytes(), 4, [0; 3]),
+        figures(45, 600),
+        // "an open desk is replaced", "every stage on layer 0, unlocked".
+        opened("A", from_hex(NET_A), 0, [2, 1, 2]),
+        figures(10, 0),
+        accepted(Step::Set(0, 1)),
+        figures(20, 600),
+    ]
+}
+
+fn refused_rows() -> Vec<(Step, Answer)> {
+    let said = |step: Step, refusal: u8| (step, Answer::Number(refusal));
+    vec![
+        opened("no bytes", vec![], 1, [0; 3]),
+        opened("4,096 zeros", vec![0; 4_096], 2, [0; 3]),
+        opened("4,097 zeros", vec![0; 4_097], 15, [0; 3]),
+        opened("4,097 bytes", of_bytes(4_097).bytes(), 15, [0; 3]),
+        // Never opened all the same.
+        said(Step::Set(2, 2), 16),
+        said(Step::Lock(2), 16),
+        said(Step::Unlock(2), 16),
+        (Step::Read, Answer::Figures(Judged { refusal: 16, cost: 0, slack: 0 })),
+        opened("B", net_b().bytes(), 0, [3, 2, 2]),
+        said(Step::Unlock(1), 0),
+        said(Step::Lock(1), 0),
+        said(Step::Lock(1), 0),
+        said(Step::Lock(2), 7),
+        said(Step::Unlock(2), 7),
+        said(Step::Set(2, 2), 7),
+        said(Step::Set(1, 2), 8),
+        said(Step::Set(1, 1), 17),
+        // The layer that it has.
+        said(Step::Set(1, 0), 17),
+        said(Step::Unlock(1), 0),
+        said(Step::Set(1, 1), 0),
+    ]
 }

@@ -2,8 +2,8 @@
 --     i = *d;  j = g(i, ..);  *d = j.desk;  result = j.answer;  return
 -- whatever the other parameters are, wherever the locals i and j stand, and for every struct that g may give whose first field is a desk and whose second is
 -- the answer: Row is its type, ν its name, τ the type of its answer, and `whose` and `ans` are its desk and the machine value of its answer.
--- d is local 1, a `&mut Desk` that is owned at h. A proof goes by `thin-body`, or by its two parts where a statement stands between them: the desk is then owned at `whose r`, the result is
--- `ans r`, and the locals are to be freed.
+-- d is local 1, a `&mut Desk` that is owned at h. A proof goes by `thin-body`, or by its two parts where a statement stands between them: the desk is then
+-- owned at `whose r`, the result is `ans r`, and the locals are to be freed.
 use mathlib.Core.Path.{_≡_, refl, sym, subst}
 use Prim.Native.Nat.{ℕ}
 use mathlib.Core.List.{[], _∷_, List}
@@ -95,7 +95,8 @@ module _ (ν : Sym) (τ : Ty) (Row : RattleType) (whose : Row .Denot → Desk) (
 
     -- What is known of the callee: its contract c, used at x, is met by f; from what a desk owns of h, and Ex, it asks what it asks; what it leaves is what a
     -- Row owns of r, and Ex′.
-    pub record Callee (H : Heap 𝓤) (A : Atoms 𝓤) (C : Calls 𝓤 H) (f : Name) (c : Contract 𝓤) (x : c .Ghost) (h : Desk) (r : Row .Denot) (Ex Ex′ : Item 𝓤) : Type 1 where
+    pub record Callee (H : Heap 𝓤) (A : Atoms 𝓤) (C : Calls 𝓤 H) (f : Name) (c : Contract 𝓤) (x : c .Ghost) (h : Desk) (r : Row .Denot)
+        (Ex Ex′ : Item 𝓤) : Type 1 where
       pub known : Triple 𝓤 (C f) c
       pub told : (v : Val) → Is Row r (v ∷ []) → Tells r v
       pub asks : ent 𝓤 (sep 𝓤 (sem 𝓤 H A (R .own h (mach h ∷ []))) (mean 𝓤 H A Ex)) (c .pre x)
@@ -123,7 +124,8 @@ module _ (ν : Sym) (τ : Ty) (Row : RattleType) (whose : Row .Denot → Desk) (
         → spotOf 𝓤 H ((τ, l₀) ∷ (σ, l₁) ∷ E′) j ≡ (pair-ty, lo, 0) → (h : Desk) (r : Row .Denot) (Ex Ex′ : Item 𝓤) → Callee H A C f c x h r Ex Ex′
         → {κ : Lft} {q : Share} {γ : GName} (b o : ℕ)
         → ((k₀ k₁ k₂ k₃ k₄ k₅ : Item 𝓤) → Opds K W
-        (k₀ ∷ k₁ ∷ k₂ ∷ k₃ ∷ k₄ ∷ k₅ ∷ ‵ (fat fullShare T′.mir lv 0 (mach h)) ∷ ‵ (froom pair-ty lo 0) ∷ ‵ (froom τ l₀ 0) ∷ Γ) ((τ, l₀) ∷ (σ, l₁) ∷ E′) xs (c .args x))
+        (k₀ ∷ k₁ ∷ k₂ ∷ k₃ ∷ k₄ ∷ k₅ ∷ ‵ (fat fullShare T′.mir lv 0 (mach h)) ∷ ‵ (froom pair-ty lo 0) ∷ ‵ (froom τ l₀ 0) ∷ Γ)
+        ((τ, l₀) ∷ (σ, l₁) ∷ E′) xs (c .args x))
         → ((v : Val) → Is Row r (v ∷ [])
         → Seq K W (shut κ q γ b o (whose r) Ex′ (‵ (fat fullShare σ l₁ 0 (vptr b o)) ∷
         ‵ (fat fullShare T′.mir lv 0 (mach h)) ∷ ‵ (fat fullShare pair-ty lo 0 (pair-val r)) ∷ ‵ (fat fullShare τ l₀ 0 (ans r)) ∷ Γ))

@@ -1,7 +1,7 @@
 //! Damaged nets.
 
 use super::draft::{Draft, Kind, Node, Place, Role, MOST_LAYERS, VIA};
-use super::named::{line, longest, net_a, net_b};
+use super::named::{line, longest, net_a, net_b, varied_line};
 use super::Random;
 
 /// Bytes to be written over others.
@@ -89,6 +89,26 @@ pub fn unreadable() -> Vec<(u8, Vec<u8>)> {
         (4, line(64, 0).bytes()),
         (5, changed_b(|draft| draft.nodes[1].parent = 2)),
         (6, changed_b(|draft| draft.nodes.truncate(1))),
+    ]
+}
+
+/// The same with nets that a desk does not take: above 4,096 bytes.
+pub fn unreadable_long() -> Vec<(u8, Vec<u8>)> {
+    let long = || varied_line(63, 0, MOST_LAYERS, false);
+    let changed = |change: fn(&mut Node)| {
+        let mut draft = long();
+        draft.nodes.last_mut().into_iter().for_each(change);
+        draft.bytes()
+    };
+    let whole = long().bytes();
+    let childless = Draft { nodes: long().nodes[..60].to_vec(), ..long() };
+    vec![
+        (1, whole[..whole.len() - 1].to_vec()),
+        (2, [&[9], &whole[1..]].concat()),
+        (3, changed(|node| node.costs[1] = 0)),
+        (4, changed(|node| node.kind = Kind::Buffer { capacitance: 1, resistance: 1, intrinsic: 1 })),
+        (5, changed(|node| node.parent = 100)),
+        (6, childless.bytes()),
     ]
 }
 

@@ -51,6 +51,33 @@ pub fn line(buffers: usize, steiner: usize) -> Draft {
     draft
 }
 
+/// A line on so many layers, with vias if it is of the second edition. Each layer has other units, and each edge another
+/// cost there. The best slack is 0.
+pub fn varied_line(buffers: usize, steiner: usize, layers: usize, with_vias: bool) -> Draft {
+    let mut draft = line(buffers, steiner);
+    draft.layers = (0..layers as i64).map(|layer| (1 + 5 * layer % 16, 1 + 3 * layer % 16)).collect();
+    draft.vias = with_vias.then(|| (0..layers as i64).map(|layer| layer % 3).collect());
+    for (place, node) in draft.nodes.iter_mut().enumerate() {
+        node.length = 1 + place as i64 % 3;
+        node.costs = (0..layers).map(|layer| 1 + ((place + 1) * (layer + 7) % 97) as i64).collect();
+    }
+    leave_slack(&mut draft, 0);
+    draft
+}
+
+/// A varied line of just so many bytes, on as many layers as that allows with as many stages as there can be.
+pub fn of_bytes(length: usize) -> Draft {
+    let lines = (1..=MOST_STAGES).rev().flat_map(|stages| (1..=MOST_LAYERS).rev().map(move |layers| (stages, layers)));
+    let fitting = lines.filter_map(|(stages, layers)| {
+        let (steiner, others) = (7 + 4 * layers, 22 + 4 * layers + stages * (19 + 4 * layers));
+        let rest = length.checked_sub(others).filter(|rest| rest % steiner == 0)? / steiner;
+        (stages + rest <= MOST_NODES).then(|| varied_line(stages - 1, rest, layers, false))
+    });
+    let draft = { fitting }.next().expect("a line of this length");
+    assert_eq!(draft.bytes().len(), length, "a field's lengths");
+    draft
+}
+
 /// A line with every number at its upper end, less this: first buffers, then Steiner points, then a sink; so many more
 /// sinks stand beside the way, one at each of the last points. The best slack is 0, if there is an arrival time for it.
 /// With 255 nodes there is none, and the sinks are required and the driver arrives so that the slack is the least. It is

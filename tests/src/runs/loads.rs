@@ -77,13 +77,13 @@ pub fn agreement(nets: &[Printed]) -> Result<String, String> {
     Ok(format!("{} inputs agree", nets.len()))
 }
 
-/// The first of these nets that exposes a walk, or how many do not.
+/// The first of these nets that exposes a walk, or how many it passed.
 pub fn exposure(walk: Walk, nets: &[Printed]) -> Result<String, String> {
     let exposing = nets.iter().enumerate().find_map(|(number, net)| {
         let difference = net.difference(&walk.text(&net.bytes))?;
         Some(format!("net {number}, {}: {difference}", net.name))
     });
-    exposing.ok_or(format!("{} inputs", nets.len()))
+    exposing.ok_or(format!("{} inputs passed", nets.len()))
 }
 
 // ------------------------------------------------------------------------------------------------

@@ -2,6 +2,7 @@
 
 pub mod blocks;
 mod chart;
+pub mod desk;
 pub mod faults;
 mod limits;
 pub mod loads;
@@ -17,7 +18,7 @@ use crate::nets::Random;
 use crate::rows;
 
 /// Everything: the rows of 01, the same nets every time, stored answers, then random nets, `count` of them small; and then
-/// the same for planning by rounds.
+/// the same for planning by rounds; and runs of calls on desks.
 pub fn all(c: &mut Comparison, seed: u64, count: usize) -> Outcome {
     rows::run(c)?;
     order::run(c)?;
@@ -37,5 +38,6 @@ pub fn all(c: &mut Comparison, seed: u64, count: usize) -> Outcome {
     planning::small_nets(c, &mut random, count, planning::one_net)?;
     limits::random(c, &mut random, count / 100)?;
     planning::large_nets(c, &mut random, count / 4, planning::one_net)?;
-    rounds::all(c, seed, count)
+    rounds::all(c, seed, count)?;
+    desk::all(c, seed, count)
 }

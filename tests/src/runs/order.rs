@@ -2,7 +2,9 @@
 
 use crate::asked::{Planning, Rounds, Share};
 use crate::compare::{Case, Comparison, Outcome};
+use crate::desk::{Named, Run, Step};
 use crate::nets::{self, net_b};
+use crate::plain::{self, MOST_DESK_NET};
 
 /// Every choice of some of these numbers.
 fn choices(numbers: &[u8]) -> Vec<Vec<u8>> {
@@ -92,4 +94,41 @@ fn judged(c: &mut Comparison, bytes: &[u8], holding: &[u8]) -> Outcome {
     c.judge(&case, &[layer])?;
     c.judge(&case, &[0, 1, layer])?;
     c.judge(&case, &[layer; 65])
+}
+
+/// Of desks: openings with bytes that are too long and no net besides; settings, lockings and unlockings on a desk never
+/// opened and on an open one, of a stage that is none, to a layer that is none, of a locked stage.
+pub fn desk(c: &mut Comparison) -> Outcome {
+    let b = Named::new("B", net_b().bytes());
+    let closed: Vec<Vec<Step>> = [vec![vec![]], openings().map(|opening| vec![opening]).collect()].concat();
+    let locked = vec![Step::Open(b.clone()), Step::Set(1, 1), Step::Lock(0), Step::Lock(1)];
+    let unlocked = vec![Step::Open(b), Step::Set(1, 1), Step::Lock(0), Step::Unlock(0)];
+    let open = [locked.clone(), unlocked].into_iter();
+    // A refused opening leaves an open desk with its locks, and a closed one closed.
+    let kept = openings().map(|opening| [&locked[..], &[opening]].concat());
+    for (number, before) in closed.into_iter().chain(open).chain(kept).enumerate() {
+        for call in each_call() {
+            let steps = [&before[..], &[call.clone(), Step::Read]].concat();
+            c.desk_run(&Run::new(&format!("refusals at once {number}: {}", call.words()), &steps))?;
+        }
+    }
+    Ok(())
+}
+
+/// Openings that are refused: with 1 to 6, with 15 where one of these holds too, and with 15 alone.
+fn openings() -> impl Iterator<Item = Step> {
+    let no_nets = nets::unreadable().into_iter().chain(nets::unreadable_long()).map(|(refusal, bytes)| {
+        assert_eq!(plain::read(&bytes).err(), Some(refusal), "a net that has this refusal");
+        (format!("no net: {refusal}"), bytes)
+    });
+    let too_long = (String::from("a whole net, too long"), nets::of_bytes(MOST_DESK_NET + 1).bytes());
+    no_nets.chain([too_long]).map(|(name, bytes)| Step::Open(Named::new(&name, bytes)))
+}
+
+/// Calls on net B with numbers in range or not; both layers, so that one of them is the stage's own.
+fn each_call() -> Vec<Step> {
+    let (stages, layers) = ([0, 1, 2, 63, 64, u64::MAX], [0, 1, 2, 16, u64::MAX]);
+    let sets = stages.into_iter().flat_map(|stage| layers.map(|layer| Step::Set(stage, layer)));
+    let marks = stages.into_iter().flat_map(|stage| [Step::Lock(stage), Step::Unlock(stage)]);
+    sets.chain(marks).chain([Step::Read]).collect()
 }

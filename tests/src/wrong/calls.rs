@@ -80,7 +80,7 @@ impl Wrong {
     }
 
     /// What stands beside a refusal.
-    fn beside(&self, call: Call, refusal: u8) -> u64 {
+    pub fn beside(&self, call: Call, refusal: u8) -> u64 {
         if self.mistake == Mistake::ResultsBeside(call, refusal) {
             LEFT
         } else {

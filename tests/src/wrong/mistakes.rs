@@ -1,5 +1,6 @@
 //! The mistakes, each with the words it is reported by.
 
+use super::desk::IN_DESKS;
 use super::rare::{IN_PLANS, IN_ROUNDS, IN_SHARES};
 use super::reading::NUMBERS;
 
@@ -25,6 +26,11 @@ with_words! { Call {
     Judge "judge",
     Plan "plan",
     Rounds "rounds",
+    DeskOpen "desk, open",
+    DeskSet "desk, set",
+    DeskLock "desk, lock",
+    DeskUnlock "desk, unlock",
+    DeskRead "desk, read",
 } }
 
 with_words! {
@@ -491,6 +497,135 @@ with_words! {
     }
 }
 
+with_words! {
+    /// About the desk.
+    Desk {
+        SizeWithoutLocks "the size of a desk without its locks",
+        // Opening.
+        LongestRefused "a net of 4,096 bytes refused",
+        LongerOpened "a net of 4,097 bytes opened",
+        Length12 "the length of a net by its low 12 bits",
+        Length16 "the length of a net by its low 16 bits",
+        RefusedClears "a refused opening clears the desk",
+        RefusedCloses "a refused opening leaves no stages",
+        RefusedCopies "a refused opening leaves the new bytes there",
+        RefusedHalf "a refused opening leaves the first half of the new bytes there",
+        RefusedLongCopies "an opening refused with 15 leaves the first 4,096 bytes there",
+        RefusedUnlocks "a refused opening unlocks all stages",
+        RefusedResets "a refused opening puts every stage on layer 0",
+        LocksKept "locks kept across opening",
+        LastLockKept "the last stage's lock kept across opening",
+        PlanKept "the plan kept across opening, as far as there are layers",
+        OfBothCleared "opening unlocks and puts on layer 0 only the stages that the net before has too",
+        SameNetKept "plan and locks kept where the net is opened that is there",
+        NotReplaced "an open desk not replaced",
+        NetKept "the net before kept where it has as many stages and layers",
+        LayersKept "the number of layers of the net before kept",
+        OpenedLocked "opening locks all stages",
+        OpenedOnLast "opening puts every stage on the last layer",
+        CountsExchanged "the counts of nodes and stages exchanged",
+        LayersForStages "the counts of stages and layers exchanged",
+        DriverNotCounted "the driver not counted among the nodes",
+        CountsOfBefore "the stages of the net before counted",
+        // Setting.
+        Stage6 "stage numbers by their low 6 bits",
+        Stage8 "stage numbers by their low 8 bits",
+        Stage16 "stage numbers by their low 16 bits",
+        Stage32 "stage numbers by their low 32 bits",
+        Stage63 "stage numbers by their low 63 bits",
+        Layer4 "layer numbers by their low 4 bits",
+        Layer8 "layer numbers by their low 8 bits",
+        Layer16 "layer numbers by their low 16 bits",
+        Layer32 "layer numbers by their low 32 bits",
+        Layer63 "layer numbers by their low 63 bits",
+        StageCountAccepted "a stage number equal to the number of stages accepted",
+        LastStageRefused "the last stage refused with 7",
+        StagesTo64 "stage numbers up to 63 accepted on every net",
+        LayerCountAccepted "a layer number equal to the layer count accepted",
+        LastLayerRefused "the last layer refused with 8",
+        LayersTo16 "layer numbers up to 15 accepted on every net",
+        LocksIgnored "a locked stage moved",
+        OwnLayerAccepted "a locked stage set to the layer that it has accepted",
+        Layer0Accepted "a locked stage set to layer 0 accepted",
+        AnyLock "17 where any stage is locked",
+        LockOf0 "17 where stage 0 is locked",
+        LockBeside "17 where the next stage is locked",
+        Locks32 "a lock for stages 32 apart",
+        Locks8 "a lock for stages 8 apart",
+        LockedMoved "a setting refused with 17 moves the stage",
+        LockedUnlocked "a setting refused with 17 unlocks the stage",
+        MovedToLast "a setting refused with 8 puts the stage on the last layer",
+        LastMoved "a setting refused with 7 puts the last stage on layer 0",
+        NextMoved "the next stage moved",
+        Stage0Moved "stage 0 moved",
+        BesideMoved "the next stage moved too",
+        AllMoved "every stage moved",
+        NotMoved "no stage moved",
+        Layer0Kept "a stage not moved to layer 0",
+        Layer15Kept "a stage not moved to layer 15",
+        Stage63Kept "stage 63 not moved",
+        LowerKept "a stage not moved to a lower layer",
+        OthersReset "a setting puts all other stages on layer 0",
+        SetLocks "a setting locks the stage",
+        SetUnlocksAll "a setting unlocks all stages",
+        // Locking and unlocking.
+        LockToggles "locking a locked stage unlocks it",
+        LockedRefused "locking a locked stage refused with 17",
+        LockAll "locking locks all stages",
+        LockNext "locking locks the next stage",
+        OneLock "locking unlocks all other stages",
+        NoLock "locking does nothing",
+        Lock63Lost "stage 63 not locked",
+        LocksCounted "a stage that is locked twice unlocked by unlocking twice",
+        LockIs255 "a lock told as 255",
+        LockResets "locking puts the stage on layer 0",
+        UnlockToggles "unlocking an unlocked stage locks it",
+        UnlockedRefused "unlocking an unlocked stage refused with 17",
+        UnlockAll "unlocking unlocks all stages",
+        UnlockNext "unlocking unlocks the next stage",
+        NoUnlock "unlocking does nothing",
+        UnlockResets "unlocking puts the stage on layer 0",
+        // Reading.
+        ReadOnLayer0 "cost and slack read with every stage on layer 0",
+        CostOnLayer0 "the cost read with every stage on layer 0",
+        CostStale "the cost of the plan before the last setting",
+        SlackStale "the slack of the plan before the last setting",
+        LateIsRefused "a plan that misses timing refused with 11",
+        SlackFrom0 "a slack below 0 read as 0",
+        Slack32 "the slack by its low 32 bits",
+        ReadUnlocks "reading unlocks all stages",
+        ReadMoves "reading puts stage 0 on layer 0",
+        // What is kept outside the record.
+        AllOutside "the desk kept outside the record",
+        NetOutside "the net kept outside the record",
+        PlanOutside "the plan kept outside the record",
+        LocksOutside "the locks kept outside the record",
+        // What only a host can see.
+        ByteBeforeDesk "a byte before the desk written",
+        ByteBeyondDesk "a byte beyond the desk written",
+        // On records with anything in them.
+        CountTrusted "a byte beyond the desk written where the record tells more than 64 stages",
+        RubbishIs9 "a record that cannot be judged refused with 9",
+        RubbishFigures "cost and slack beside the refusal of a record that cannot be judged",
+    }
+}
+
+impl Desk {
+    /// Shows in runs of calls: not the size, nor what is done with rubbish.
+    fn is_of_runs(self) -> bool {
+        !matches!(self, Desk::SizeWithoutLocks | Desk::CountTrusted | Desk::RubbishIs9 | Desk::RubbishFigures)
+    }
+}
+
+/// The refusals of the calls on a desk.
+const DESK_REFUSALS: [(Call, &[u8]); 5] = [
+    (Call::DeskOpen, &[1, 2, 3, 4, 5, 6, 15]),
+    (Call::DeskSet, &[7, 8, 16, 17]),
+    (Call::DeskLock, &[7, 16]),
+    (Call::DeskUnlock, &[7, 16]),
+    (Call::DeskRead, &[16]),
+];
+
 /// Mistakes that any planning call can make, and that calls without a fault show: timing, search, buffers.
 pub const IN_ANY_PLANNING: &[Other] = &[
     Other::AlwaysEleven,
@@ -575,6 +710,10 @@ pub enum Mistake {
     /// By the k at which the plan was found, and by the number of rounds run.
     RarePlanRound(u32),
     RareRounds(u64),
+    Desk(Desk),
+    /// A byte that no call looks at is changed in a desk's record; with this answer, 0 for acceptance.
+    DeskChanged(Call, u8),
+    RareDesk(usize),
 }
 
 impl Mistake {
@@ -609,10 +748,15 @@ impl Mistake {
             Mistake::RareRun(place) => format!("rounds: slack wrong only {}", IN_ROUNDS[place].0),
             Mistake::RarePlanRound(k) => format!("rounds: slack wrong only where the plan is that of k = {k}"),
             Mistake::RareRounds(rounds) => format!("rounds: slack wrong only where {rounds} are run"),
+            Mistake::Desk(slip) => format!("desk: {}", slip.words()),
+            Mistake::DeskChanged(call, refusal) => {
+                format!("{}: a byte of the desk changed with {refusal}", call.words())
+            }
+            Mistake::RareDesk(place) => format!("desk: slack wrong only {}", IN_DESKS[place].0),
         }
     }
 
-    /// All of them but those of rounds.
+    /// All of them but those of rounds and of desks.
     pub fn all() -> Vec<Mistake> {
         let mut all = vec![];
         all.extend(Other::ALL.iter().map(|&other| Mistake::Other(other)));
@@ -675,6 +819,32 @@ impl Mistake {
             Rounds::Floor16,
         ];
         slips.map(Mistake::Rounds).to_vec()
+    }
+
+    /// All that are made on desks alone.
+    pub fn of_desks() -> Vec<Mistake> {
+        let apart = Desk::ALL.iter().filter(|slip| !slip.is_of_runs()).map(|&slip| Mistake::Desk(slip));
+        apart.chain(Mistake::of_desk_runs()).collect()
+    }
+
+    /// Of these, those that show in runs of calls.
+    pub fn of_desk_runs() -> Vec<Mistake> {
+        let slips = Desk::ALL.iter().filter(|slip| slip.is_of_runs());
+        let mut all: Vec<Mistake> = slips.map(|&slip| Mistake::Desk(slip)).collect();
+        all.extend((1..=6).map(|early| Mistake::Before(Call::DeskOpen, early, 15)));
+        let orders = [(7, 16), (8, 16), (8, 7), (17, 7), (17, 8)];
+        all.extend(orders.map(|(early, late)| Mistake::Before(Call::DeskSet, early, late)));
+        all.extend([Call::DeskLock, Call::DeskUnlock].map(|call| Mistake::Before(call, 7, 16)));
+        for (call, refusals) in DESK_REFUSALS {
+            all.extend(refusals.iter().map(|&refusal| Mistake::DeskChanged(call, refusal)));
+        }
+        all.push(Mistake::DeskChanged(Call::DeskRead, 0));
+        for (call, refusals) in [DESK_REFUSALS[0], DESK_REFUSALS[4]] {
+            all.extend(refusals.iter().map(|&refusal| Mistake::ResultsBeside(call, refusal)));
+        }
+        all.push(Mistake::NetChanged(Call::DeskOpen));
+        all.extend((0..IN_DESKS.len()).map(Mistake::RareDesk));
+        all
     }
 
     /// What a planning call leaves after its refusals: 12 alone clears the table.

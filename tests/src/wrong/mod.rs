@@ -1,9 +1,10 @@
-//! Wrong planners, in the library's place and with the C calls' parameters: one planner by a table of budgets, and a
-//! list of mistakes, of which it makes one at a time. The comparison must expose each of them, and must find no fault
+//! Wrong planners, in the library's place and with the C calls' parameters: one planner by a table of budgets, with a desk,
+//! and a list of mistakes, of which it makes one at a time. The comparison must expose each of them, and must find no fault
 //! with the planner that makes none. And wrong walks that sum up loads and count edges, in the place of a program.
 
 mod calls;
 mod chart;
+mod desk;
 mod loads;
 mod mistakes;
 mod pointers;

@@ -1,12 +1,16 @@
 //! The planner's calls on the pointers and lengths that the library's are given. They make the mistake that was chosen
 //! for their thread.
 
-use super::mistakes::{Block, Call, Mistake, Other};
-use super::Wrong;
+use super::mistakes::{Block, Call, Desk, Mistake, Other};
+use super::{desk, Wrong};
 use crate::c_calls::{Check, Judge, Plan, PlanRounds, Report, TableEntries, Totals};
+use crate::c_calls::{
+    DeskCounts, DeskFigures, DeskLock, DeskOpen, DeskRead, DeskRecord, DeskSet, DeskSize, DeskUnlock,
+};
 use crate::host::Interface;
 use crate::plain::{Planned, RoundsPlanned};
 use std::cell::{Cell, RefCell};
+use std::mem::size_of;
 use std::slice::{from_raw_parts, from_raw_parts_mut};
 use std::thread::LocalKey;
 
@@ -27,7 +31,21 @@ pub fn interface(mistake: Mistake) -> Interface {
     WRONG.set(Wrong { mistake });
     LAST.take();
     LAST_BY_ROUNDS.take();
-    Interface { check, judge, plan, plan_rounds, table_entries, report }
+    desk::forget();
+    Interface {
+        check,
+        judge,
+        plan,
+        plan_rounds,
+        table_entries,
+        report,
+        desk_size,
+        desk_open,
+        desk_set,
+        desk_lock,
+        desk_unlock,
+        desk_read,
+    }
 }
 
 unsafe fn check(Check { net, net_len, nodes, stages, layers }: Check) -> u8 {
@@ -93,7 +111,63 @@ unsafe fn report(Report { block, block_len }: Report) -> Totals {
     totals
 }
 
+unsafe fn desk_size(DeskSize {}: DeskSize) -> u64 {
+    WRONG.get().desk_size()
+}
+
+unsafe fn desk_open(DeskOpen { desk, net, net_len }: DeskOpen) -> DeskCounts {
+    let wrong = WRONG.get();
+    let bytes = from_raw_parts(net, net_len);
+    let counts = wrong.on_desk(
+        Call::DeskOpen,
+        &mut *desk,
+        |counts: &DeskCounts| counts.refusal,
+        |desk| wrong.desk_open(desk, bytes),
+    );
+    wrong.change_net(Call::DeskOpen, net, net_len);
+    counts
+}
+
+unsafe fn desk_set(DeskSet { desk, stage, layer }: DeskSet) -> u8 {
+    let wrong = WRONG.get();
+    let refusal =
+        wrong.on_desk(Call::DeskSet, &mut *desk, |refusal| *refusal, |desk| wrong.desk_set(desk, stage, layer));
+    wrong.write_beside_desk(desk, stage);
+    refusal
+}
+
+unsafe fn desk_lock(DeskLock { desk, stage }: DeskLock) -> u8 {
+    let wrong = WRONG.get();
+    wrong.on_desk(Call::DeskLock, &mut *desk, |refusal| *refusal, |desk| wrong.desk_lock(desk, stage))
+}
+
+unsafe fn desk_unlock(DeskUnlock { desk, stage }: DeskUnlock) -> u8 {
+    let wrong = WRONG.get();
+    wrong.on_desk(Call::DeskUnlock, &mut *desk, |refusal| *refusal, |desk| wrong.desk_unlock(desk, stage))
+}
+
+unsafe fn desk_read(DeskRead { desk }: DeskRead) -> DeskFigures {
+    let wrong = WRONG.get();
+    let desk = &mut *desk.cast_mut();
+    wrong.on_desk(Call::DeskRead, desk, |figures: &DeskFigures| figures.refusal, |desk| wrong.desk_read(desk))
+}
+
 impl Wrong {
+    /// Writes beside a desk; or by a stage number that the record alone allows.
+    unsafe fn write_beside_desk(&self, desk: *mut DeskRecord, stage: u64) {
+        let bytes: *mut u8 = desk.cast();
+        if self.slips_on_desk(Desk::ByteBeforeDesk) {
+            *bytes.sub(1) = 0;
+        }
+        if self.slips_on_desk(Desk::ByteBeyondDesk) {
+            *bytes.add(size_of::<DeskRecord>()) = 0;
+        }
+        // No further than the margin.
+        if self.slips_on_desk(Desk::CountTrusted) && (64..164).contains(&stage) && stage < (*desk).stages {
+            *bytes.add(size_of::<DeskRecord>() + stage as usize - 64) = 0;
+        }
+    }
+
     /// The answer to a planning call: by mistake that of the last one again, if it was the same.
     fn answered<A: Copy>(
         &self,

@@ -1,5 +1,6 @@
-//! Which kinds of calls by rounds (02, wish 7) were made: each that is due must be met.
+//! Planning by rounds (02, wish 7).
 
+use super::{numbers, Kinds};
 use crate::compare::Case;
 use crate::plain::{self, Net, Round, RoundsPlanned};
 use std::collections::BTreeSet;
@@ -126,21 +127,16 @@ impl Met {
         }
     }
 
-    /// What was met, a line for each kind, and whether it is all that is due.
-    pub fn told(&self) -> (Vec<String>, bool) {
+    /// What is due.
+    pub fn kinds(&self) -> Kinds {
         let kinds = self.kinds.iter().zip(KINDS).map(|(&often, (words, _))| (format!("{words}: {often}"), often > 0));
+        let due = |least: u64, most: u64| (least..=most).collect::<Vec<u64>>();
         let numbers = [
-            ("refusals", &self.refusals, REFUSALS.to_vec()),
-            ("numbers of rounds run", &self.run, (1..=29).collect()),
-            ("numbers of rounds run where they ended early", &self.run_early, (1..=28).collect()),
-            ("k at which the plan was found", &self.found_at, (0..=28).collect()),
+            numbers("refusals", &self.refusals, &REFUSALS),
+            numbers("numbers of rounds run", &self.run, &due(1, 29)),
+            numbers("numbers of rounds run where they ended early", &self.run_early, &due(1, 28)),
+            numbers("k at which the plan was found", &self.found_at, &due(0, 28)),
         ];
-        let numbers = numbers.map(|(words, met, due)| {
-            let often = due.iter().filter(|number| met.contains(number)).count();
-            (format!("{words}: {often} of {}", due.len()), often == due.len())
-        });
-        let lines: Vec<(String, bool)> = kinds.chain(numbers).collect();
-        let all = lines.iter().all(|(_, met)| *met);
-        (lines.into_iter().map(|(line, met)| format!("{}{line}", if met { "" } else { "NOT MET: " })).collect(), all)
+        kinds.chain(numbers).collect()
     }
 }
