@@ -167,8 +167,8 @@ struct vorphiel_totals vorphiel_report(const uint8_t *block, size_t block_len);
  * A host may look at it. stages and layers are the counts of the net, 0 on a desk never opened; for each stage t below
  * stages, plan[t] is its layer, and locks[t] is 1 if it is locked, else 0; used and net are the bytes of the net. Only
  * the calls should write there. What is said below is said of a desk that was cleared, and that only these calls
- * altered since. Whatever else a host wrote there, no call reads or writes beyond the desk, and each answers with
- * results, or with one of 1 to 8 and 15 to 17, with zeros, and leaves the desk as it was.
+ * altered since. Whatever else a host wrote there, no call reads or writes beyond the desk, and each answers: with
+ * results, or with a refusal, one of 1 to 8 and 15 to 17, which gives zeros and leaves the desk as it was.
  *
  * A host in another language lends vorphiel_desk_size() bytes, at an address that is a multiple of the alignment. */
 #define VORPHIEL_DESK_SIZE 4248
