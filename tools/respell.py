@@ -1,8 +1,9 @@
 #!/usr/bin/env python3
 """Brings the repository's own definitions and lemmas to the spelling of today's Rattle: words in snake case, a dash only between two names.
 
-usage: tools/respell.py [--check]     at the top of the repository, once, after the kit's port.py
-       tools/respell.py --map         prints the table of names, old and new
+usage: tools/respell.py               at the top of the repository, once, after the kit's port.py: turns the names of tools/respell.tsv
+       tools/respell.py --check       what would fall together, by the table made anew
+       tools/respell.py --map         prints the table made anew, names old and new (tools/respell.tsv is the one that was used)
 
 Names declared in specs/ and in the lemma files of proofs/ turn, in those files, in the clauses of src/, in proofs, in must-fail edits and in the pages of
 docs/. A dash stays where both sides are names of definitions, facts or types (of this repository or of the library), as in `length-drop`; a plain word is
@@ -39,7 +40,6 @@ OTHERWISE = {
     "asked_in": "asked_in_range",
     "at_stage": "at_each_stage",
     "too_long": "too_long_is_none",
-    "node_in": "node_in_turn",
     "tagOf": "tag_for",
 }
 
@@ -171,6 +171,8 @@ def main(argv):
     if "--check" in argv:
         clash(rows, declared, imported)
         return
+    with open(os.path.join(os.path.dirname(os.path.realpath(__file__)), "respell.tsv"), encoding="utf-8") as f:
+        rows = dict(line.rstrip("\n").split("\t") for line in f)
     rows["Contracts"] = "Clauses"
     for p in glob.glob("crates/**/*.antt", recursive=True):
         t = read(p)

@@ -1,6 +1,8 @@
 // The steps on the rows of the work table (source 001, section 4.2). Entry w of a row is the latest time at which its stage may be reached with budget w. A
 // row is named by its offset in the table, and has entries in its band only, from `start` to before `end`: with less than `start` no time is met at which the
 // stage can be reached, and what is not met before `end` is met with no budget. A row over a delay d is read d earlier.
+#![tactic(auto)]
+
 ghost use Rattle.std.specs.Prelude.{◌≡◌, ◌+◌, ◌≤◌, min, length};
 ghost use Rattle.laws.specs.Basic.{min_z};
 ghost use Rattle.oracle.specs.Band.{FirstIn};
@@ -43,7 +45,7 @@ pub fn fill(table: &mut [i64], row: usize, start: usize, end: usize, value: i64)
 }
 
 // A band over a delay: its row, its columns, and the delay.
-#[derive(Drop)]
+#[derive(Clone, Copy)]
 pub struct Part {
     pub row: usize,
     pub start: usize,
@@ -178,7 +180,7 @@ pub fn first_column(table: &[i64], row: usize, start: usize, end: usize, t: i64)
 }
 
 // The columns of a row that are kept: its band.
-#[derive(Drop)]
+#[derive(Clone, Copy)]
 pub struct Span {
     pub start: usize,
     pub end: usize,

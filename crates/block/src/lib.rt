@@ -1,5 +1,8 @@
 // The report over a block (02, wish 2): one walk over the fields says whether the bytes are a block, before any net is planned; a second plans the nets and
 // adds up what planning answers.
+
+#![tactic(auto)]
+
 ghost use Rattle.std.specs.Prelude.{◌≡◌, true, ℕ, ◌<◌, length};
 ghost use Rattle.rules.specs.Timing as timing;
 ghost use Rattle.rules.specs.Reading.{accept, refuse};

@@ -1,5 +1,7 @@
 // The bands of the stages that a stage drives, merged (source 001, section 4.2.2): what a layer of the stage asks besides its cost. Behind the rows of the
 // stages stand two rows for merging.
+#![tactic(auto)]
+
 ghost use Rattle.bands.specs.Clauses.{BranchIn};
 ghost use Rattle.branches.specs.Clauses.{Limited, SeenIn, Seen, BranchesIn, Joined};
 
@@ -8,7 +10,7 @@ use rules::MAX_LAYERS;
 use slices::Sizes;
 
 // A row over a delay.
-#[derive(Drop)]
+#[derive(Clone, Copy)]
 struct Delayed {
     row: usize,
     delay: u64,

@@ -1,4 +1,7 @@
 // Planning from the bytes of a net: the refusals in their order, and what planning the net that was read gives. The open calls of `vorphiel` hand these on.
+
+#![tactic(auto)]
+
 ghost use Rattle.planning.specs.Calls.{PlansNet};
 ghost use Rattle.rounds_planning.specs.Calls.{PlansRounds};
 

@@ -1,4 +1,6 @@
 // The wall chart of table lengths (02, wish 1) as a constant table: the entries that always serve a net of s stages at share 1/q.
+#![tactic(auto)]
+
 mod entries;
 
 ghost use Rattle.std.specs.Prelude.{◌≡◌};

@@ -1,4 +1,6 @@
 // The wall chart's text (02, wish 1), written from the constant table: its bytes are those of the definition, and the bytes after it keep their values.
+#![tactic(auto)]
+
 ghost use Rattle.std.specs.Prelude.{◌≡◌, ◌++◌, ◌+◌, ◌≤◌, length, take, drop};
 ghost use Rattle.io.specs.Counts.{IsPrefixLen};
 ghost use Rattle.rules.specs.Bytes.{max_stages};
@@ -31,7 +33,7 @@ pub fn write_chart(out: &mut [u8]) -> usize
     ensures value { result ≡ length chart_text }
     ensures out_after { out.new ≡ chart_text ++ drop result out.old }
     ensures prefix_len { IsPrefixLen result out.new }
-    ensures out_after_2 { numbers_in (take result out.new) ≡ table_rows }
+    ensures numbers { numbers_in (take result out.new) ≡ table_rows }
 {
     let mut next = put_row(1, out, 0);
     let mut s: u64 = 1;

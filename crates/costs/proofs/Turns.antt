@@ -25,21 +25,21 @@ module _ {w : List ℕ} {nodes layers : ℕ} (H : Held w nodes layers) {stage be
   inside = omega (arith, H.nodes-are)
 
   -- and the tables have a row for it.
-  pub node_in_turn : j < max_nodes + 1
-  node_in_turn = omega (arith, inside, (held-accepted H).few-nodes)
+  pub node_in : j < max_nodes + 1
+  node_in = omega (arith, inside, (held-accepted H).few-nodes)
 
   -- There is room for the costs of its edge,
   pub room-here : Room (net_in w) j (get_or stage j 0) layers costs
-  room-here = room (held-accepted H) P inside H.layers-are (S.Stage-is j P.some inside)
+  room-here = room (held-accepted H) P inside H.layers-are (S.stage_is j P.some inside)
 
   -- and with them the table holds the costs up to it.
   pub more-here : {next : List ℕ} → RowSet 0 max_layers costs next (get_or stage j 0) layers (cost_with (net_in w) j (get_or stage j 0) costs)
       → Pricing (net_in w) next (j + 1)
-  more-here = pricing_more (held-accepted H) P inside H.layers-are (S.Stage-is j P.some inside)
+  more-here = pricing_more (held-accepted H) P inside H.layers-are (S.stage_is j P.some inside)
 
 -- A turn of the sum over the edges under plan x.
 pub record CostTurn (w stage x : List ℕ) (layers j : ℕ) : Type 0 where
-  pub node_in_turn : j < max_nodes + 1
+  pub node_in : j < max_nodes + 1
   pub in_stages : j < length stage
   pub stage_in : get_or stage j 0 < length x
   pub layer_in_lem : get_or x (get_or stage j 0) 0 < layers
@@ -53,11 +53,11 @@ pub cost-turn : {w : List ℕ} {nodes layers : ℕ} → Held w nodes layers → 
 cost-turn {w} {nodes} {layers} H {stage} S {x} F {j} a b =
     let A = held-accepted H in
     let inside : j ≤ length (net_in w).nodes = omega (arith, H.nodes-are) in
-    let e : get_or stage j 0 ≡ stage_of (net_in w) j = S.Stage-is j a inside in
+    let e : get_or stage j 0 ≡ stage_of (net_in w) j = S.stage_is j a inside in
     let t : get_or stage j 0 < stages (net_in w) = omega (arith, stage-below A j a inside) in
     let q : j + 1 - 1 ≡ j = omega arith in
     record {
-      node_in_turn = omega (arith, A.few-nodes);
+      node_in = omega (arith, A.few-nodes);
       in_stages = omega (arith, A.few-nodes, S.stage-long);
       stage_in = omega (arith, F.sized);
       layer_in_lem = omega (arith, F.layered (get_or stage j 0) t, H.layers-are);

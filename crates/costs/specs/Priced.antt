@@ -1,10 +1,10 @@
 -- The cost of each stage on each layer, and of a plan (01, Timing rule; source 001, section 2: the sum of all wire costs of a stage on a layer is computed
 -- once). Both are sums over the edges in node order.
-use Rattle.std.specs.Prelude.{◌≡◌, refl, Bool, List, map, ℕ, zero, suc, ◌+◌, ◌*◌, ◌-◌, ◌≤◌, ◌<◌, eqb, length}
+use Rattle.std.specs.Prelude.{◌≡◌, refl, Bool, List, map, ℕ, zero, suc, ◌+◌, ◌*◌, ◌-◌, ◌≤◌, ◌<◌, eqb, length, if◌then◌else◌}
 use Rattle.std.proofs.Common.{ap, sym, eq-eqb, ne_eqb}
 use Rattle.std.proofs.Math.Bool.{true, false}
 use native.Mathlib.Omega.{arith}
-use Rattle.laws.specs.Basic.{if◌then◌else◌, from, sum}
+use Rattle.laws.specs.Basic.{from, sum}
 use Rattle.laws.specs.Lists.{length_from}
 use Rattle.laws.specs.Sums.{sum-keep, sum-from, sum-most}
 use Rattle.rules.specs.Tree.{Net, edges, edges_of, stage_of, stages, layer_count, on}

@@ -1,4 +1,6 @@
 // The cost of each stage on each layer, and of a plan (01, Timing rule: cost is the sum of all edge costs on their layers).
+#![tactic(auto)]
+
 ghost use Rattle.std.specs.Prelude.{◌≡◌, List, ℕ, ◌+◌, ◌*◌, ◌<◌, ◌≤◌, replicate};
 ghost use Rattle.rules.specs.Bytes.{max_layers, max_stages};
 ghost use Rattle.rules.specs.Timing.{cost};

@@ -1,11 +1,10 @@
 -- The delays, from the first node to the last: the delay to a node is the delay to the upper end of its edge, the edge delay, and at a terminal the via there
 -- (02, wish 5); at a root the wire starts with the gate delay, at any other node with the delay to that node (01, Timing rule; source 001, section 2:
 -- root-terminal path delay).
-use Rattle.std.specs.Prelude.{◌≡◌, Bool, true, false, ◌⊎◌, List, length, get_or}
+use Rattle.std.specs.Prelude.{◌≡◌, Bool, true, false, ◌⊎◌, List, length, get_or, if◌then◌else◌}
 use Rattle.std.proofs.Math.Path.{refl}
 use Rattle.std.proofs.Common.{ap, sym, ◌∙◌, inl, inr, arith}
 use Prim.Native.Nat.{ℕ, ◌+◌, ◌*◌, ◌≤◌, ◌<◌}
-use Rattle.laws.specs.Basic.{if◌then◌else◌}
 use Rattle.laws.specs.Booleans.{same_or}
 use Rattle.rules.specs.declared.Kind.{Kind}
 use Rattle.rules.specs.Tree.{Net, at, layer_count, is_root, drives, stage_of, on}
@@ -250,7 +249,7 @@ module _ {n : Net} (A : Accepted n) {below first : List ℕ} {w : ℕ} {table de
 
       paid : {delay'' : List ℕ} → RowSet 0 w delay' delay'' j w (via_added n w delay' (on first (get_or below p 0)) pin j) → Delaying n first w delay'' (j + 1)
       paid G =
-          let same : on first (get_or below p 0) ≡ l = ap (on first) S.Stage-is ∙ sym e in
+          let same : on first (get_or below p 0) ≡ l = ap (on first) S.stage_is ∙ sym e in
           passed (G.long ∙ F.long) (λ i c d ne. row_kept G i c d ne ∙ row_kept F i c d ne) (λ c d.
           rw same at (G.set_to c d) ∙ rw (via-is c) (with_via c d))
 

@@ -1,7 +1,8 @@
 // The delay from the gate input of its stage to each node (01, Timing rule; source 001, section 2), by the loads (`loads::loads`) and in tables of the same
 // rows and columns: judging has one column, the plan's layer, and planning one for each layer.
-ghost use Rattle.std.specs.Prelude.{◌≡◌, false, List, ℕ, ◌+◌, ◌*◌, ◌≤◌, ◌<◌, length, get_or};
-ghost use Rattle.laws.specs.Basic.{if◌then◌else◌};
+#![tactic(auto)]
+
+ghost use Rattle.std.specs.Prelude.{◌≡◌, false, List, ℕ, ◌+◌, ◌*◌, ◌≤◌, ◌<◌, length, get_or, if◌then◌else◌};
 ghost use Rattle.rules.specs.Tree.{on};
 ghost use Rattle.rules.specs.Bytes.{max_via_res, max_gate_res, max_intrinsic, max_layers, max_nodes};
 ghost use Rattle.facts.specs.Layers.{NoVias};

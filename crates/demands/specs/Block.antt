@@ -1,12 +1,12 @@
 -- What a report says in words (02, wish 2), for every input: each edge of a planned net is on one layer, so the lengths over layers add up to the wire of the
 -- planned nets; each net is planned or refused with one of the numbers counted; and demand 3 holds for each planned net, so also for their sum.
-use Rattle.std.specs.Prelude.{◌≡◌, Bool, true, false, ℕ, ◌+◌, ◌*◌, ◌<◌, ◌≤◌, length}
+use Rattle.std.specs.Prelude.{◌≡◌, Bool, true, false, ℕ, ◌+◌, ◌*◌, ◌<◌, ◌≤◌, length, if◌then◌else◌}
 use Rattle.std.proofs.Math.Path.{refl}
 use Rattle.std.proofs.Common.{ap, ◌∙◌}
 use mathlib.Core.List.{List, [], ◌∷◌, map, Memᴰ}
 use native.Mathlib.Omega.{arith}
 use Rattle.std.proofs.lemmas.List.{length-map}
-use Rattle.laws.specs.Basic.{if◌then◌else◌, from, sum, keep}
+use Rattle.laws.specs.Basic.{from, sum, keep}
 use Rattle.laws.specs.Lists.{from_low, from-mem, map_same}
 use Rattle.laws.specs.Sums.{sum-none, sum_add, sum_one, sum-by_class}
 use Rattle.rules.specs.Tree.{Net, at, edges, stage_of, on, is_plan}

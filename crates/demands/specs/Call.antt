@@ -1,9 +1,9 @@
 -- From the definition of planning's answer to demand 3 in the words of the call: what an answer says that equals the definition.
-use Rattle.std.specs.Prelude.{◌≡◌, Bool, true, false, ◌&&◌, List, ◌++◌, ℕ, ◌+◌, ◌*◌, ◌≤◌, ◌<◌, leb, ltb, eqb, length, take, drop, ℤ, pos}
+use Rattle.std.specs.Prelude.{◌≡◌, Bool, true, false, ◌&&◌, List, ◌++◌, ℕ, ◌+◌, ◌*◌, ◌≤◌, ◌<◌, leb, ltb, eqb, length, take, drop, ℤ, pos, if◌then◌else◌}
 use Rattle.std.proofs.Math.Path.{refl}
 use Rattle.std.proofs.Common.{ap, sym, ◌∙◌, subst, arith, take_at, le-leb, leb-true, leb-false}
 use Rattle.std.proofs.Math.Option.{Option, none, some}
-use Rattle.laws.specs.Basic.{if◌then◌else◌, within}
+use Rattle.laws.specs.Basic.{within}
 use Rattle.laws.specs.Booleans.{and_left, and_right}
 use Rattle.rules.specs.declared.Planned.{Planned}
 use Rattle.rules.specs.Tree.{Net, stages, is_plan}

@@ -67,6 +67,7 @@ module _ (n : Net) where
           (x, plan-mem x m, e)
 
       some : {x : List ℕ} (xs : List (List ℕ)) → Memᴰ x xs → ltb 0 (length xs) ≡ true
+      some [] m = elim m [ ]
       some (y ∷ ys) m = lt-ltb 0 (length (y ∷ ys)) (omega arith)
 
 module _ {n : Net} (A : Accepted n) where

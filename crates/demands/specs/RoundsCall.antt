@@ -1,6 +1,6 @@
 -- From the definition of planning by rounds (02, wish 7) to its answer: the refusals in their order, what is answered for a choice and on a refusal, and the
 -- k's that are run, their cheapest plan and floor in the words of the search.
-use Rattle.std.specs.Prelude.{◌≡◌, Bool, true, false, leb, ltb, eqb, length, drop, ℤ, pos}
+use Rattle.std.specs.Prelude.{◌≡◌, Bool, true, false, leb, ltb, eqb, length, drop, ℤ, pos, if◌then◌else◌}
 use Rattle.std.proofs.Math.Path.{refl, ap, fun_ext}
 use Rattle.std.proofs.Common.{◌∙◌, add-zero, zero-add, suc-add, pow-suc, le-leb}
 use Rattle.std.proofs.Math.Option.{Option, some}
@@ -9,7 +9,7 @@ use Prim.Native.Nat.{ℕ, zero, suc, ◌+◌, ◌-◌, ◌^◌, ◌≤◌, ◌<�
 use native.Mathlib.Omega.{arith}
 use Rattle.std.proofs.Math.Nat.{mul-le-mul_left}
 use Rattle.std.proofs.lemmas.Bool.{lt-leb}
-use Rattle.laws.specs.Basic.{if◌then◌else◌, from, leading, somes, within, first_lowest}
+use Rattle.laws.specs.Basic.{from, leading, somes, within, first_lowest}
 use Rattle.laws.specs.Front.{leading-all, highest_ge, highest_le}
 use Rattle.rules.specs.declared.RoundsPlanned.{RoundsPlanned}
 use Rattle.rules.specs.Tree.{Net, stages}

@@ -1,7 +1,6 @@
 -- What opening and reading make of the desk's record, and their answers, for every content that a record can have (02, wish 8). Setting, locking and unlocking,
 -- which do not look at the net's bytes: desk_record/specs/OnRecord.antt.
-use Rattle.std.specs.Prelude.{List, ℕ, leb, length, take, pos}
-use Rattle.laws.specs.Basic.{if◌then◌else◌}
+use Rattle.std.specs.Prelude.{List, ℕ, leb, length, take, pos, if◌then◌else◌}
 use Rattle.rules.specs.declared.Checked.{Checked}
 use Rattle.rules.specs.declared.Judged.{Judged}
 use Rattle.rules.specs.Reading.{check}

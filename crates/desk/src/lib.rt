@@ -1,5 +1,7 @@
 // The desk (02, wish 8) where its net's bytes are looked at: opening and reading, each on the record by value (crate `desk_record`). The open calls put what
 // they hand back where the host lent the record (crate `lent_desk`). specs/ says which record stands for which desk in mind, and what every run of calls does.
+#![tactic(auto)]
+
 ghost use Rattle.std.specs.Prelude.{◌≡◌};
 ghost use Rattle.desk.specs.OnDesk.{open_on, read_on};
 

@@ -1,8 +1,7 @@
 -- What setting, locking, unlocking and opening make of the desk's record, and their answers, for every content that a record can have (02, wish 8). Of a record
 -- that the calls made this is what an engineer has in mind (desk/specs/Stands.antt). t is a stage, l a layer.
-use Rattle.std.specs.Prelude.{◌≡◌, refl, Bool, true, false, not, ◌&&◌, List, ◌++◌, ℕ, ◌+◌, ◌*◌, ◌≤◌, ◌<◌, leb, ltb, eqb, length, get_or, set, drop, replicate}
+use Rattle.std.specs.Prelude.{◌≡◌, refl, Bool, true, false, not, ◌&&◌, List, ◌++◌, ℕ, ◌+◌, ◌*◌, ◌≤◌, ◌<◌, leb, ltb, eqb, length, get_or, set, drop, replicate, if◌then◌else◌}
 use Rattle.std.proofs.Common.{arith, ltb-true, leb-true, ne_eqb}
-use Rattle.laws.specs.Basic.{if◌then◌else◌}
 use Rattle.laws.specs.Booleans.{and_right, and_three}
 use Rattle.rules.specs.declared.Checked.{Checked}
 use Rattle.rules.specs.Bytes.{max_layers, max_stages}

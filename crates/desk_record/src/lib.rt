@@ -1,5 +1,7 @@
 // The desk's record (02, wish 8), and what a change or an opening makes of it: each function takes the record by value and hands back what it becomes, with
 // the answer. It answers for every content of the record; which refusal comes first is settled in one place, `change_refusal`.
+#![tactic(auto)]
+
 ghost use Rattle.std.specs.Prelude.{◌≡◌, ◌&&◌, ◌++◌, ◌≤◌, leb, ltb, length, get_or, drop};
 ghost use Rattle.rules.specs.Desk.{max_desk_net};
 ghost use Rattle.desk_record.specs.OnRecord.{desk_size, change_refusal, is_locked, mark_on, set_on, lock_on, unlock_on, open_with, is_readable};
@@ -9,7 +11,7 @@ use rules::Checked;
 // A desk: the bytes of its net and how many they are, the counts of its stages and layers, the layer of each stage, and 1 for each stage that is locked.
 // A count of 0 stages says that it was never opened, so that cleared memory is a fresh desk. Numbers only: every content is a record.
 #[repr(C)]
-#[derive(Drop)]
+#[derive(Clone, Copy)]
 pub struct Desk {
     pub used: u64,
     pub stages: u64,
@@ -20,14 +22,14 @@ pub struct Desk {
 }
 
 // What a change hands back: the desk afterwards and the refusal number, 0 if it is accepted.
-#[derive(Drop)]
+#[derive(Clone, Copy)]
 pub struct Changed {
     pub desk: Desk,
     pub answer: u8,
 }
 
 // What opening hands back: the desk afterwards, and the reader's counts or the refusal number.
-#[derive(Drop)]
+#[derive(Clone, Copy)]
 pub struct Opened {
     pub desk: Desk,
     pub answer: Checked,
@@ -62,6 +64,7 @@ fn is_locked(locks: [u8; rules::MAX_STAGES], stage: u64) -> bool
 }
 
 // The number of a change: 16 for a desk never opened, then 7 for the stage, then 8 for the layer, then 17 for the lock; 0 if none of them is due.
+#[tactic(auto, unfolding(crate::specs::OnRecord::change_refusal))]
 fn change_refusal(opened: bool, stage: bool, layer: bool, locked: bool) -> u8
     ensures { result ≡ change_refusal opened stage layer locked }
 {

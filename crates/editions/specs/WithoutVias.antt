@@ -1,12 +1,12 @@
 -- The rules as they stood before vias (02, wish 5): 01, with the lengths of wish 3, and with the floor of wish 6, which no rule decided then. Timing and the
 -- layers field stand as they were. What rests on timing and on reading stands once, with both handed in: handed those of today it is today's rules (`check-is`
 -- to `report-is`), and so nothing else can differ.
-use Rattle.std.specs.Prelude.{◌≡◌, refl, Bool, ◌&&◌, ℕ, zero, suc, ◌+◌, ◌*◌, ◌/◌, ◌-◌, ◌^◌, ◌%◌, leb, ltb, eqb, length, drop, ℤ, pos, ◌-ℤ◌}
+use Rattle.std.specs.Prelude.{◌≡◌, refl, Bool, ◌&&◌, ℕ, zero, suc, ◌+◌, ◌*◌, ◌/◌, ◌-◌, ◌^◌, ◌%◌, leb, ltb, eqb, length, drop, ℤ, pos, ◌-ℤ◌, if◌then◌else◌}
 use Rattle.std.proofs.Common.{ap}
 use Rattle.std.proofs.Math.Option.{Option}
 use mathlib.Core.List.{List, [], ◌++◌, map, head?}
 use Rattle.std.specs.Int.Signed.{le_z}
-use Rattle.laws.specs.Basic.{if◌then◌else◌, from, sum, all, keep, least_of, lowest, largest, within}
+use Rattle.laws.specs.Basic.{from, sum, all, keep, least_of, lowest, largest, within}
 use Rattle.rules.specs.declared.Checked.{Checked}
 use Rattle.rules.specs.declared.Judged.{Judged}
 use Rattle.rules.specs.declared.Report.{Report}

@@ -1,12 +1,12 @@
 -- The edges of each stage, counted one by one (02, wish 4): an edge counts 1 for its own stage and 0 for every other. As each edge is of one stage, the
 -- counts of the stages add up to the number of edges, which is that of the nodes after the driver (01, The tree; source 001, section 2).
-use Rattle.std.specs.Prelude.{◌≡◌, Bool, map, ℕ, suc, ◌+◌, ◌≤◌, length}
+use Rattle.std.specs.Prelude.{◌≡◌, Bool, map, ℕ, suc, ◌+◌, ◌≤◌, length, if◌then◌else◌}
 use Rattle.std.proofs.Math.Path.{refl, sym}
 use Rattle.std.proofs.Common.{ap, ◌∙◌}
 use Rattle.std.proofs.Math.Bool.{true, false}
 use native.Mathlib.Omega.{arith}
 use Rattle.std.proofs.Math.Dec.{eqb}
-use Rattle.laws.specs.Basic.{if◌then◌else◌, from, sum, keep}
+use Rattle.laws.specs.Basic.{from, sum, keep}
 use Rattle.laws.specs.Lists.{length_from, from_low, from-mem, map_same}
 use Rattle.laws.specs.Sums.{sum-most, sum-keep, sum_ones, sum-by_class}
 use Rattle.rules.specs.Tree.{Net, edges, edges_of, stage_of, stages}

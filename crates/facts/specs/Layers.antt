@@ -1,11 +1,11 @@
 -- The layers of either edition (01, Net bytes; 02, wish 5): a net without vias, and what a layers field that is due holds, 1 to 16 layers of the size that
 -- its tag says and no byte more.
-use Rattle.std.specs.Prelude.{◌≡◌, refl, Bool, true, false, ◌||◌, List, ℕ, ◌+◌, ◌*◌, ◌/◌, ◌%◌, ◌≤◌, ◌<◌, eqb, length, get_or}
+use Rattle.std.specs.Prelude.{◌≡◌, refl, Bool, true, false, ◌||◌, List, ℕ, ◌+◌, ◌*◌, ◌/◌, ◌%◌, ◌≤◌, ◌<◌, eqb, length, get_or, if◌then◌else◌}
 use Rattle.std.proofs.Common.{◌∙◌, arith, mul-le-mul, eqb-true}
 use Rattle.std.proofs.Math.Decide.{dec_lt}
 use Rattle.std.proofs.lemmas.List.{length-map}
 use Rattle.std.proofs.Math.ListN.{get_or-eq_default}
-use Rattle.laws.specs.Basic.{if◌then◌else◌, from, within}
+use Rattle.laws.specs.Basic.{from, within}
 use Rattle.laws.specs.Booleans.{and_three, within-true}
 use Rattle.laws.specs.Lists.{length_from}
 use Rattle.rules.specs.Tree.{Net, layer_count}

@@ -1,6 +1,6 @@
 -- Loads: a load is a sum over the nodes after its own, and no load exceeds what all nodes below it could add by themselves. A Steiner point adds to its
 -- parent's load its own wire and just what its children add to it, so each node's wire and input capacitance counts once on the way up.
-use Rattle.std.specs.Prelude.{◌≡◌, ◌⊎◌, map}
+use Rattle.std.specs.Prelude.{◌≡◌, ◌⊎◌, map, if◌then◌else◌}
 use Rattle.std.proofs.Math.Path.{refl, ap}
 use Rattle.std.proofs.Common.{◌∙◌, inl, inr, suc-add, ne_eqb, lt-ltb}
 use Prim.Native.Nat.{ℕ, zero, suc, ◌+◌, ◌*◌, ◌-◌, ◌≤◌}
@@ -9,7 +9,7 @@ use Rattle.std.proofs.Math.Nat.{zero-add}
 use Rattle.std.proofs.Math.Decide.{dec_le}
 use Rattle.std.proofs.Math.Dec.{ltb, eqb}
 use Rattle.std.proofs.Math.ListN.{length}
-use Rattle.laws.specs.Basic.{if◌then◌else◌, from, sum}
+use Rattle.laws.specs.Basic.{from, sum}
 use Rattle.laws.specs.Lists.{map_same}
 use Rattle.laws.specs.Booleans.{if_lt_suc}
 use Rattle.laws.specs.Sums.{sum_add, sum-keep}

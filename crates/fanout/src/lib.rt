@@ -1,5 +1,7 @@
 // What belongs to each of a row of numbers, as links: for the search, the stages that each stage drives. The links are made once for each call, so that no loop
 // looks through all of them again and again.
+#![tactic(auto)]
+
 ghost use Rattle.std.specs.Prelude.{◌≤◌, length};
 ghost use Rattle.fanout.specs.Clauses.{LinkIn, Unlinked, Linked};
 

@@ -1,4 +1,5 @@
 -- What the definitions of 01 give at the values that the code has in hand: a law for each outcome of a read or a test.
+use Rattle.std.specs.Prelude.{if◌then◌else◌}
 use mathlib.Core.Path.{◌≡◌, refl, ap, ◌∙◌}
 use mathlib.Core.Bool.{Bool, true, false, ◌&&◌, ◌||◌}
 use mathlib.Core.List.{List}
@@ -13,7 +14,7 @@ use lib.Signed.{le_z}
 use mir.Syntax.{w64}
 use mir.Val.{to_z, SFits}
 use borrow.Author.Tests.{lt-ltb, le-ltb, le-leb, lt-leb, leb-true, leb-false}
-use Rattle.laws.specs.Basic.{if◌then◌else◌, within}
+use Rattle.laws.specs.Basic.{within}
 use Rattle.rules.specs.Bytes.{Field, max_time, max_layers, layers_tag, via_layers_tag, number, signed, field_at, next, layer_size, due_layers, kind_size, is_time}
 use Rattle.rules.specs.Reading.{accept, refuse, ◌>>◌, ◌unless◌, field}
 

@@ -1,4 +1,6 @@
 // Numbers, times, fields and ranges in net bytes (01, Net bytes and Reading), the leaves of the reader; and the range of a share (01, Planning).
+#![tactic(auto)]
+
 ghost use Rattle.std.specs.Prelude.{◌≡◌, ◌&&◌, ◌||◌, ◌+◌, ◌*◌, ◌≤◌, leb, eqb, length};
 ghost use Rattle.laws.specs.Basic.{within};
 ghost use Rattle.rules.specs.Bytes.{max_layers, layers_tag, via_layers_tag, number, signed, layer_size, due_layers, kind_size, is_time, is_kind};
@@ -45,7 +47,7 @@ pub fn within(x: u64, lo: u64, hi: u64) -> bool
 }
 
 // Which field is due: one of a net, or a net's own field in a block (02, wish 2).
-#[derive(Drop)]
+#[derive(Clone, Copy)]
 pub enum Due {
     Layers,
     Driver,
@@ -122,7 +124,7 @@ fn allowed(due: Due, layers: usize, tag: u32, size: usize) -> bool
 }
 
 // What a field read finds: the field, or its refusal number.
-#[derive(Drop)]
+#[derive(Clone, Copy)]
 pub enum Found {
     Field { tag: u32, start: usize, size: usize },
     Refused(u8),

@@ -1,4 +1,6 @@
 // Checking and judging a net from its bytes: the refusals in their order, then the counts, or what the plan has.
+#![tactic(auto)]
+
 ghost use Rattle.std.specs.Prelude.{◌≡◌};
 ghost use Rattle.rules.specs.Reading.{check};
 ghost use Rattle.rules.specs.Judging.{judge};

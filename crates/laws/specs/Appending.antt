@@ -1,10 +1,10 @@
 -- Laws of lists and of times in general: the members that pass a test of two lists in a row, numbers in order with the last apart, and the least of a list
 -- with one member more at its end.
-use Rattle.std.specs.Prelude.{◌≡◌, refl, Bool, true, false, ◌&&◌, List, [], ◌∷◌, ◌++◌, ℕ, zero, suc, ◌-◌, ◌≤◌, ℤ}
+use Rattle.std.specs.Prelude.{◌≡◌, refl, Bool, true, false, ◌&&◌, List, [], ◌∷◌, ◌++◌, ℕ, zero, suc, ◌-◌, ◌≤◌, ℤ, cond}
 use Rattle.std.proofs.Common.{ap, sym, ◌∙◌, arith, one-add}
 use Rattle.std.proofs.Math.Bool.{and_assoc}
 use Rattle.std.specs.Int.Signed.{le_z}
-use Rattle.laws.specs.Basic.{if◌then◌else◌, from, keep, min_z, least_z}
+use Rattle.laws.specs.Basic.{from, keep, min_z, least_z}
 use Rattle.laws.specs.Lists.{from_more}
 use Rattle.laws.specs.Integers.{same-bounds, le_min_z}
 
@@ -14,7 +14,7 @@ keep_append f [] ys = refl
 keep_append {A = A} f (x ∷ xs) ys = go (f x) (keep_append f xs ys)
   where
     go : (b : Bool) → keep f (xs ++ ys) ≡ keep f xs ++ keep f ys
-        → (if b then (x ∷ keep f (xs ++ ys)) else keep f (xs ++ ys)) ≡ (if b then (x ∷ keep f xs) else keep f xs) ++ keep f ys
+        → (cond b (x ∷ keep f (xs ++ ys)) (keep f (xs ++ ys))) ≡ (cond b (x ∷ keep f xs) (keep f xs)) ++ keep f ys
     go true e = ap (λ (zs : List A). x ∷ zs) e
     go false e = e
 

@@ -1,14 +1,8 @@
--- Small definitions that the rules are written with: a choice by a test, numbers in order, sums, the members that pass a test, the least of a list.
-use Rattle.std.specs.Prelude.{Bool, true, false, ◌&&◌, cond, ℕ, zero, suc, ◌+◌, min, max, leb, eqb, ℤ, pos}
+-- Small definitions that the rules are written with: numbers in order, sums, the members that pass a test, the least of a list.
+use Rattle.std.specs.Prelude.{Bool, true, false, ◌&&◌, cond, if◌then◌else◌, ℕ, zero, suc, ◌+◌, min, max, leb, eqb, ℤ, pos}
 use Rattle.std.proofs.Math.Option.{Option, none, some}
 use mathlib.Core.List.{List, [], ◌∷◌, head?}
 use Rattle.std.specs.Int.Signed.{le_z}
-
-infix 1 if◌then◌else◌
--- a choice by a test
-abbrev pub if◌then◌else◌ {ℓ} : {A : Type ℓ} → Bool → A → A → A
-if true then a else b = a
-if false then a else b = b
 
 -- 1 for true, 0 for false
 abbrev pub bit : Bool → ℕ
@@ -32,12 +26,12 @@ all (x ∷ xs) = x && all xs
 -- the members at which a test passes, in their order
 abbrev pub keep {ℓ} : {A : Type ℓ} → (A → Bool) → List A → List A
 keep test [] = []
-keep test (x ∷ xs) = if test x then (x ∷ keep test xs) else keep test xs
+keep test (x ∷ xs) = cond (test x) (x ∷ keep test xs) (keep test xs)
 
 -- the members at the front of a list, before the first at which a test fails
 abbrev pub leading {ℓ} : {A : Type ℓ} → (A → Bool) → List A → List A
 leading test [] = []
-leading test (x ∷ xs) = if test x then (x ∷ leading test xs) else []
+leading test (x ∷ xs) = cond (test x) (x ∷ leading test xs) []
 
 -- what is there of a list of options, in its order
 abbrev pub somes {ℓ} : {A : Type ℓ} → List (Option A) → List A

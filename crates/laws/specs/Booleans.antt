@@ -1,8 +1,8 @@
 -- Laws of truth values and of tests.
-use Rattle.std.specs.Prelude.{◌≡◌, refl, Bool, true, false, ◌&&◌, ◌||◌, ◌⊎◌, ℕ, ◌≤◌, ◌+◌, suc, leb, eqb, ltb}
+use Rattle.std.specs.Prelude.{◌≡◌, refl, Bool, true, false, ◌&&◌, ◌||◌, ◌⊎◌, ℕ, ◌≤◌, ◌+◌, suc, leb, eqb, ltb, cond}
 use Rattle.std.proofs.Common.{sym, inl, inr, arith, lt_of_not-le, not-le_of_lt, leb-true, leb-false, le-leb, eqb-true, ltb-true, ltb-false, lt-ltb, le-ltb}
 use Rattle.std.proofs.lemmas.Bool.{lt-leb, eqb-false}
-use Rattle.laws.specs.Basic.{bit, if◌then◌else◌, within}
+use Rattle.laws.specs.Basic.{bit, within}
 
 pub and_left : (a b : Bool) → a && b ≡ true → a ≡ true
 and_left true b e = refl
@@ -54,10 +54,10 @@ pub within-true : (lo hi x : ℕ) → within lo hi x ≡ true → (lo ≤ x) × 
 within-true lo hi x e = let (p, q) = and_both (leb lo x) (leb x hi) e in (leb-true lo x p, leb-true x hi q)
 
 -- A number is below m + 1 if it is below m or m itself.
-pub if_lt_suc : (p m x : ℕ) → (if ltb p (suc m) then x else 0) ≡ (if ltb p m then x else 0) + (if eqb p m then x else 0)
+pub if_lt_suc : (p m x : ℕ) → (cond (ltb p (suc m)) x 0) ≡ (cond (ltb p m) x 0) + (cond (eqb p m) x 0)
 if_lt_suc p m x = go (ltb p m) (eqb p m) refl refl
   where
-    go : (s t : Bool) → ltb p m ≡ s → eqb p m ≡ t → (if ltb p (suc m) then x else 0) ≡ (if s then x else 0) + (if t then x else 0)
+    go : (s t : Bool) → ltb p m ≡ s → eqb p m ≡ t → (cond (ltb p (suc m)) x 0) ≡ (cond s x 0) + (cond t x 0)
     go true true e f = absurd (omega (arith, ltb-true p m e, eqb-true p m f))
     go true false e f = rw (lt-ltb p (suc m) (omega (arith, ltb-true p m e))) (omega arith)
     go false true e f = rw (lt-ltb p (suc m) (omega (arith, eqb-true p m f))) (omega arith)

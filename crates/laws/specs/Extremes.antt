@@ -5,7 +5,7 @@ use mathlib.Core.List.Memᴰ
 use mathlib.Core.List.{List, [], ◌∷◌, Memᴰ}
 use Rattle.std.proofs.Math.Nat.{le-suc_iff}
 use Rattle.std.proofs.Math.Decide.{dec_le}
-use Rattle.laws.specs.Basic.{if◌then◌else◌, lowest1, lowest, largest}
+use Rattle.laws.specs.Basic.{lowest1, lowest, largest}
 use Rattle.std.specs.Int.Signed.{le_z}
 use Rattle.laws.specs.Lists.{Some}
 use Rattle.laws.specs.Integers.{le_true, le_false, true_le}
@@ -39,7 +39,7 @@ unfolding largest
 largest-passes test zero z = z
 largest-passes test (suc n) z = go (test (suc n)) refl (largest-passes test n z)
   where
-    go : (b : Bool) → test (suc n) ≡ b → test (largest test n) ≡ true → test (if b then suc n else largest test n) ≡ true
+    go : (b : Bool) → test (suc n) ≡ b → test (largest test n) ≡ true → test (cond b (suc n) (largest test n)) ≡ true
     go true e r = e
     go false e r = r
 
@@ -48,7 +48,7 @@ unfolding largest
 largest-max test zero k h m = absurd (omega arith)
 largest-max test (suc n) k h m = go (test (suc n)) refl m (largest-max test n k) (le-suc_iff.0 h)
   where
-    go : (b : Bool) → test (suc n) ≡ b → (if b then suc n else largest test n) < k → (k ≤ n → largest test n < k → test k ≡ false) → (k ≤ n) ⊎ (k ≡ suc n) → test k ≡ false
+    go : (b : Bool) → test (suc n) ≡ b → (cond b (suc n) (largest test n)) < k → (k ≤ n → largest test n < k → test k ≡ false) → (k ≤ n) ⊎ (k ≡ suc n) → test k ≡ false
     go true e m r c = absurd (omega arith)
     go false e m r (inl a) = r a m
     go false e m r (inr a) = ap test a ∙ e
@@ -58,7 +58,7 @@ unfolding largest
 largest_le test zero = omega arith
 largest_le test (suc n) = go (test (suc n)) (largest_le test n)
   where
-    go : (b : Bool) → largest test n ≤ n → (if b then suc n else largest test n) ≤ suc n
+    go : (b : Bool) → largest test n ≤ n → (cond b (suc n) (largest test n)) ≤ suc n
     go true h = omega arith
     go false h = omega arith
 
@@ -68,7 +68,7 @@ unfolding largest
 largest-is test zero k h t f = omega arith
 largest-is test (suc n) k h t f = go (le-suc_iff.0 h) (λ h. largest-is test n k h t (λ j a b. f j a (omega arith)))
   where
-    go : (k ≤ n) ⊎ (k ≡ suc n) → (k ≤ n → largest test n ≡ k) → (if test (suc n) then suc n else largest test n) ≡ k
+    go : (k ≤ n) ⊎ (k ≡ suc n) → (k ≤ n → largest test n ≡ k) → (cond (test (suc n)) (suc n) (largest test n)) ≡ k
     go (inl a) r = rw (f (suc n) (omega arith) (omega arith)) (r a)
     go (inr e) r = rw (← e, t)
 

@@ -3,14 +3,14 @@
 use Rattle.std.proofs.Math.Path.{◌≡◌, refl}
 use Rattle.std.proofs.Common.{ap, sym, ◌∙◌, arith, eqb-true, eq-eqb, ne_eqb, ltb-true, ltb-false}
 use Rattle.std.proofs.Math.Bool.{Bool}
-use Rattle.std.specs.Prelude.{true, false, ltb, length, get_or, take}
+use Rattle.std.specs.Prelude.{true, false, ltb, length, get_or, take, cond}
 use Rattle.std.proofs.Math.Option
 use Rattle.std.proofs.Math.Option.{Option, none, some, some-injective, or_else}
 use mathlib.Core.List.Memᴰ
-use mathlib.Core.List.{List, [], ◌∷◌, ◌++◌, Memᴰ}
+use mathlib.Core.List.{List, [], ◌∷◌, ◌++◌, Memᴰ, head?}
 use Prim.Native.Nat.{ℕ, ◌≤◌, ◌<◌, min}
 use Rattle.std.proofs.Math.Dec.{eqb}
-use Rattle.laws.specs.Basic.{if◌then◌else◌, leading, somes, lowest1, lowest, first_lowest, highest}
+use Rattle.laws.specs.Basic.{keep, leading, somes, lowest1, lowest, first_lowest, highest}
 use Rattle.laws.specs.Lists.{head-keep, find, find-keep}
 use Rattle.laws.specs.First.{find_append, find_none, find-some}
 use Rattle.laws.specs.Extremes.{lowest_le, lowest-some}
@@ -47,7 +47,7 @@ module _ {ℓ} {A : Type ℓ} (test : A → Bool) where
   leading-more (x ∷ xs) ys = go (test x) (leading-more xs ys)
     where
       go : (b : Bool) → (zs : List A) × (leading test (xs ++ ys) ≡ leading test xs ++ zs)
-          → (zs : List A) × ((if b then (x ∷ leading test (xs ++ ys)) else []) ≡ (if b then (x ∷ leading test xs) else []) ++ zs)
+          → (zs : List A) × ((cond b (x ∷ leading test (xs ++ ys)) []) ≡ (cond b (x ∷ leading test xs) []) ++ zs)
       go true (zs, e) = (zs, ap (λ (l : List A). x ∷ l) e)
       go false r = ([], refl)
 
@@ -57,8 +57,8 @@ module _ {ℓ} {A : Type ℓ} (test : A → Bool) where
   leading-take (x ∷ xs) = go (test x) (leading-take xs)
     where
       go : (b : Bool) → (length (leading test xs) ≤ length xs) × (leading test xs ≡ take (length (leading test xs)) xs)
-          → (length (if b then (x ∷ leading test xs) else []) ≤ length (x ∷ xs))
-          × ((if b then (x ∷ leading test xs) else []) ≡ take (length (if b then (x ∷ leading test xs) else [])) (x ∷ xs))
+          → (length (cond b (x ∷ leading test xs) []) ≤ length (x ∷ xs))
+          × ((cond b (x ∷ leading test xs) []) ≡ take (length (cond b (x ∷ leading test xs) [])) (x ∷ xs))
       go true (h, e) = (omega arith, ap (λ (l : List A). x ∷ l) e)
       go false r = (omega arith, refl)
 
@@ -67,9 +67,9 @@ module _ {ℓ} {A : Type ℓ} (test : A → Bool) where
   leading-ended d [] h = absurd (omega arith)
   leading-ended d (x ∷ xs) h = go (test x) refl h (leading-ended d xs)
     where
-      go : (b : Bool) → test x ≡ b → length (if b then (x ∷ leading test xs) else []) < length (x ∷ xs)
+      go : (b : Bool) → test x ≡ b → length (cond b (x ∷ leading test xs) []) < length (x ∷ xs)
           → (length (leading test xs) < length xs → test (get_or xs (length (leading test xs)) d) ≡ false)
-          → test (get_or (x ∷ xs) (length (if b then (x ∷ leading test xs) else [])) d) ≡ false
+          → test (get_or (x ∷ xs) (length (cond b (x ∷ leading test xs) [])) d) ≡ false
       go true e h r = r (omega arith)
       go false e h r = e
 
@@ -96,7 +96,7 @@ module _ {ℓ} {A : Type ℓ} (f : A → ℕ) where
 
   -- One member more at the end takes its place only if its value is less.
   pub first-lowest-more : {b : A} (xs : List A) (y : A) → first_lowest f xs ≡ some b
-      → first_lowest f (xs ++ (y ∷ [])) ≡ some (if ltb (f y) (f b) then y else b)
+      → first_lowest f (xs ++ (y ∷ [])) ≡ some (cond (ltb (f y) (f b)) y b)
   unfolding or_else
   first-lowest-more [] y e = let z : ◌≡◌ {A = ℕ} 0 1 = cc in absurd (omega arith)
   first-lowest-more {b} (x ∷ xs) y e = go (ltb (f y) (f b)) refl
@@ -112,9 +112,9 @@ module _ {ℓ} {A : Type ℓ} (f : A → ℕ) where
 
       found : (m : ℕ) → lowest f ((x ∷ xs) ++ (y ∷ [])) ≡ m
           → first_lowest f ((x ∷ xs) ++ (y ∷ [])) ≡ or_else (find (now m) (x ∷ xs)) (find (now m) (y ∷ []))
-      found m q = rw q (find-keep (now m) ((x ∷ xs) ++ (y ∷ []))) ∙ split m
+      found m q = ap (λ (l : ℕ). head? (keep (now l) ((x ∷ xs) ++ (y ∷ [])))) q ∙ find-keep (now m) ((x ∷ xs) ++ (y ∷ [])) ∙ split m
 
-      go : (t : Bool) → ltb (f y) (f b) ≡ t → first_lowest f ((x ∷ xs) ++ (y ∷ [])) ≡ some (if t then y else b)
+      go : (t : Bool) → ltb (f y) (f b) ≡ t → first_lowest f ((x ∷ xs) ++ (y ∷ [])) ≡ some (cond t y b)
       go true q =
           let less = ltb-true (f y) (f b) q in
           let none_before : find (now (f y)) (x ∷ xs) ≡ none =

@@ -127,6 +127,7 @@ pub same-bounds : (a b : ℤ) → ((x : ℤ) → le_z x a ≡ le_z x b) → a �
 same-bounds a b h = same_view a b (omega (arith, le_true a b (sym (h a) ∙ le_self a), le_true b a (h b ∙ le_self b)))
 
 all_le-at : (x : ℤ) (rs : List ℤ) (q : ℤ) → Memᴰ q rs → all_le x rs ≡ true → le_z x q ≡ true
+all_le-at x [] q m t = elim m [ ]
 all_le-at x (r ∷ rs) q (Memᴰ.head e) t = ap (le_z x) e ∙ and_left (le_z x r) (all_le x rs) t
 all_le-at x (r ∷ rs) q (Memᴰ.tail m) t = all_le-at x rs q m (and_right (le_z x r) (all_le x rs) t)
 
@@ -167,6 +168,7 @@ least_of-is r xs m h =
     same_view (least_of xs) r (omega (arith, le_true (least_of xs) r (least_le xs m)))
   where
     least_le : (xs : List ℤ) → Memᴰ r xs → le_z (least_of xs) r ≡ true
+    least_le [] m = elim m [ ]
     least_le (x ∷ xs) m = all_le-at (least_z x xs) (x ∷ xs) r m (sym (le_least_z (least_z x xs) x xs) ∙ le_self (least_z x xs))
 
 -- The lesser of two is no later than either.

@@ -1,12 +1,12 @@
 -- Laws of lists: numbers in order, members, the members that pass a test, one member more at the end.
-use Rattle.std.specs.Prelude.{◌≡◌, refl, Bool, true, false, ◌⊎◌, ℕ, zero, suc, ◌+◌, ◌*◌, ◌-◌, ◌≤◌, ◌<◌, length, get_or, set, eqb}
+use Rattle.std.specs.Prelude.{◌≡◌, refl, Bool, true, false, ◌⊎◌, ℕ, zero, suc, ◌+◌, ◌*◌, ◌-◌, ◌≤◌, ◌<◌, length, get_or, set, eqb, cond}
 use Rattle.std.proofs.Common.{ap, sym, ◌∙◌, inl, inr, eq-or-lt_of_le, add-zero, add-one, length-append, get_or-set_same, get_or-set_other, eq-eqb, ne_eqb}
 use Rattle.std.proofs.Math.Option.{Option, none, some}
 use mathlib.Core.List.Memᴰ
 use mathlib.Core.List.{List, [], ◌∷◌, ◌++◌, map, head?, Memᴰ}
 use native.Mathlib.Omega.{arith}
 use Rattle.std.proofs.Math.Nat.{sub-zero}
-use Rattle.laws.specs.Basic.{if◌then◌else◌, bit, from, all, keep}
+use Rattle.laws.specs.Basic.{bit, from, all, keep}
 use Rattle.laws.specs.Booleans.{and_left, and_right, same_or}
 
 -- numbers in order
@@ -87,10 +87,11 @@ map-mem f (x ∷ xs) (Memᴰ.tail m) = let (z, a, b) = map-mem f xs m in (z, Mem
 -- the members that pass a test
 module _ {ℓ} {A : Type ℓ} (test : A → Bool) where
   pub mem-keep : {x : A} (xs : List A) → Memᴰ x xs → test x ≡ true → Memᴰ x (keep test xs)
+  mem-keep {x = x} [] m t = elim m [ ]
   mem-keep (y ∷ xs) (Memᴰ.head e) t = rw (ap test (sym e) ∙ t) (Memᴰ.head e)
   mem-keep {x} (y ∷ xs) (Memᴰ.tail m) t = go (test y) (mem-keep xs m t)
     where
-      go : (b : Bool) → Memᴰ x (keep test xs) → Memᴰ x (if b then (y ∷ keep test xs) else keep test xs)
+      go : (b : Bool) → Memᴰ x (keep test xs) → Memᴰ x (cond b (y ∷ keep test xs) (keep test xs))
       go true k = Memᴰ.tail k
       go false k = k
 
@@ -98,7 +99,7 @@ module _ {ℓ} {A : Type ℓ} (test : A → Bool) where
   keep-mem [] m = absurd (Memᴰ.not-nil m)
   keep-mem {x} (y ∷ xs) m = go (test y) refl m (keep-mem xs)
     where
-      go : (b : Bool) → test y ≡ b → Memᴰ x (if b then (y ∷ keep test xs) else keep test xs) → (Memᴰ x (keep test xs) → Memᴰ x xs × (test x ≡ true)) → Memᴰ x (y ∷ xs) × (test x ≡ true)
+      go : (b : Bool) → test y ≡ b → Memᴰ x (cond b (y ∷ keep test xs) (keep test xs)) → (Memᴰ x (keep test xs) → Memᴰ x xs × (test x ≡ true)) → Memᴰ x (y ∷ xs) × (test x ≡ true)
       go true e (Memᴰ.head a) r = (Memᴰ.head a, ap test a ∙ e)
       go true e (Memᴰ.tail m) r = let (a, b) = r m in (Memᴰ.tail a, b)
       go false e m r = let (a, b) = r m in (Memᴰ.tail a, b)
@@ -113,13 +114,13 @@ module _ {ℓ} {A : Type ℓ} (test : A → Bool) where
   -- the first that passes
   abbrev pub find : List A → Option A
   find [] = none
-  find (x ∷ xs) = if test x then some x else find xs
+  find (x ∷ xs) = cond (test x) (some x) (find xs)
 
   pub find-keep : (xs : List A) → head? (keep test xs) ≡ find xs
   find-keep [] = refl
   find-keep (x ∷ xs) = go (test x) (find-keep xs)
     where
-      go : (b : Bool) → head? (keep test xs) ≡ find xs → head? (if b then (x ∷ keep test xs) else keep test xs) ≡ (if b then some x else find xs)
+      go : (b : Bool) → head? (keep test xs) ≡ find xs → head? (cond b (x ∷ keep test xs) (keep test xs)) ≡ (cond b (some x) (find xs))
       go true e = refl
       go false e = e
 
@@ -144,13 +145,13 @@ others-are (y ∷ ys) x d (suc j) h = others-are ys x d j (λ e. h (ap suc e))
 pub keep-more {ℓ} : {A : Type ℓ} (f : A → Bool) (xs : List A) (x : A) → length (keep f (xs ++ (x ∷ []))) ≡ length (keep f xs) + bit (f x)
 keep-more f [] x = go (f x)
   where
-    go : (b : Bool) → length (if b then (x ∷ []) else []) ≡ 0 + bit b
+    go : (b : Bool) → length (cond b (x ∷ []) []) ≡ 0 + bit b
     go true = omega arith
     go false = omega arith
 keep-more f (y ∷ xs) x = go (f y) (keep-more f xs x)
   where
     go : (b : Bool) → length (keep f (xs ++ (x ∷ []))) ≡ length (keep f xs) + bit (f x)
-        → length (if b then (y ∷ keep f (xs ++ (x ∷ []))) else keep f (xs ++ (x ∷ []))) ≡ length (if b then (y ∷ keep f xs) else keep f xs) + bit (f x)
+        → length (cond b (y ∷ keep f (xs ++ (x ∷ []))) (keep f (xs ++ (x ∷ [])))) ≡ length (cond b (y ∷ keep f xs) (keep f xs)) + bit (f x)
     go true e = omega arith
     go false e = e
 
@@ -158,7 +159,7 @@ pub keep_le {ℓ} : {A : Type ℓ} (f : A → Bool) (xs : List A) → length (ke
 keep_le f [] = omega arith
 keep_le f (x ∷ xs) = go (f x) (keep_le f xs)
   where
-    go : (b : Bool) → length (keep f xs) ≤ length xs → length (if b then (x ∷ keep f xs) else keep f xs) ≤ suc (length xs)
+    go : (b : Bool) → length (keep f xs) ≤ length xs → length (cond b (x ∷ keep f xs) (keep f xs)) ≤ suc (length xs)
     go true h = omega arith
     go false h = omega arith
 
@@ -214,7 +215,7 @@ pub some-passes {ℓ} : {A : Type ℓ} (test : A → Bool) (d : A) (xs : List A)
 some-passes test d [] h = absurd (omega arith)
 some-passes test d (x ∷ xs) h = go (test x) refl h (some-passes test d xs)
   where
-    go : (b : Bool) → test x ≡ b → 1 ≤ length (if b then (x ∷ keep test xs) else keep test xs)
+    go : (b : Bool) → test x ≡ b → 1 ≤ length (cond b (x ∷ keep test xs) (keep test xs))
         → (1 ≤ length (keep test xs) → (i : ℕ) × (i < length xs) × (test (get_or xs i d) ≡ true))
         → (i : ℕ) × (i < suc (length xs)) × (test (get_or (x ∷ xs) i d) ≡ true)
     go true e h r = (0, omega arith, e)
@@ -229,8 +230,8 @@ count-by-number test d (x ∷ xs) entry i h =
     rw e (go (test x) (count-by-number test d xs entry (suc i) (λ m b. ap entry (omega arith) ∙ h (suc m) (omega arith))))
   where
     go : (b : Bool) → length (keep test xs) ≡ length (keep (λ j. test (entry j)) (from (suc i) (length xs)))
-        → length (if b then (x ∷ keep test xs) else keep test xs)
-        ≡ length (if b then (i ∷ keep (λ j. test (entry j)) (from (suc i) (length xs))) else keep (λ j. test (entry j)) (from (suc i) (length xs)))
+        → length (cond b (x ∷ keep test xs) (keep test xs))
+        ≡ length (cond b (i ∷ keep (λ j. test (entry j)) (from (suc i) (length xs))) (keep (λ j. test (entry j)) (from (suc i) (length xs))))
     go true e = ap suc e
     go false e = e
 

@@ -1,12 +1,12 @@
 -- Laws of lists in general: equal tests keep equal members; sums and least values over numbers in order, one number more at the end.
-use Rattle.std.specs.Prelude.{◌≡◌, Bool}
+use Rattle.std.specs.Prelude.{◌≡◌, Bool, cond}
 use Rattle.std.proofs.Math.Path.{refl}
 use Rattle.std.proofs.Common.{◌∙◌, add-zero}
 use Rattle.std.proofs.Math.Bool.{true, false}
 use mathlib.Core.List.{List, [], ◌∷◌, map, Memᴰ}
 use Prim.Native.Nat.{ℕ, zero, suc, ◌+◌, ◌-◌, ◌≤◌, ◌<◌, min}
 use native.Mathlib.Omega.{arith}
-use Rattle.laws.specs.Basic.{if◌then◌else◌, from, sum, keep, lowest}
+use Rattle.laws.specs.Basic.{from, sum, keep, lowest}
 
 -- Tests that agree on the members of a list keep the same members.
 pub keep_same {ℓ} : {A : Type ℓ} (p q : A → Bool) (xs : List A) → ((x : A) → Memᴰ x xs → p x ≡ q x) → keep p xs ≡ keep q xs
@@ -19,20 +19,20 @@ module _ (test : ℕ → Bool) (f : ℕ → ℕ) where
   passing a b = sum (map f (keep test (from a (b - a))))
 
   counted : ℕ → ℕ
-  counted b = if test b then f b else 0
+  counted b = cond (test b) (f b) 0
 
   last-counts : (a n : ℕ) → sum (map f (keep test (from a (suc n)))) ≡ sum (map f (keep test (from a n))) + counted (a + n)
   unfolding counted
   last-counts a zero = rw (add-zero a) (go (test a))
     where
-      go : (b : Bool) → sum (map f (if b then (a ∷ []) else [])) ≡ 0 + (if b then f a else 0)
+      go : (b : Bool) → sum (map f (cond b (a ∷ []) [])) ≡ 0 + (cond b (f a) 0)
       go true = omega arith
       go false = refl
   last-counts a (suc n) = let e : a + suc n ≡ suc a + n = omega arith in rw e (go (test a) (last-counts (suc a) n))
     where
       go : (b : Bool) → sum (map f (keep test (from (suc a) (suc n)))) ≡ sum (map f (keep test (from (suc a) n))) + counted (suc a + n)
-          → sum (map f (if b then (a ∷ keep test (from (suc a) (suc n))) else keep test (from (suc a) (suc n))))
-          ≡ sum (map f (if b then (a ∷ keep test (from (suc a) n)) else keep test (from (suc a) n))) + counted (suc a + n)
+          → sum (map f (cond b (a ∷ keep test (from (suc a) (suc n))) (keep test (from (suc a) (suc n)))))
+          ≡ sum (map f (cond b (a ∷ keep test (from (suc a) n)) (keep test (from (suc a) n)))) + counted (suc a + n)
       go true e = omega arith
       go false e = e
 

@@ -1,9 +1,9 @@
 -- Sums over lists: of nothing, of bounded values, of two functions, over the members that pass a test, by classes.
-use Rattle.std.specs.Prelude.{◌≡◌, refl, Bool, true, false, ℕ, zero, suc, ◌+◌, ◌*◌, ◌≤◌, ◌<◌, min, eqb, leb, length}
+use Rattle.std.specs.Prelude.{◌≡◌, refl, Bool, true, false, ℕ, zero, suc, ◌+◌, ◌*◌, ◌≤◌, ◌<◌, min, eqb, leb, length, cond}
 use Rattle.std.proofs.Common.{ap, sym, ◌∙◌, arith, add-zero, suc-add, add-suc, eqb-true, ne_eqb}
 use mathlib.Core.List.{List, [], ◌∷◌, map, Memᴰ, ◌++◌}
 use Rattle.std.proofs.lemmas.Bool.{eqb-false}
-use Rattle.laws.specs.Basic.{if◌then◌else◌, from, sum, keep}
+use Rattle.laws.specs.Basic.{from, sum, keep}
 use Rattle.laws.specs.Lists.{from_low}
 use Rattle.laws.specs.Booleans.{leb-same}
 
@@ -25,27 +25,27 @@ sum_add f g [] = refl
 sum_add f g (x ∷ xs) = omega (arith, sum_add f g xs)
 
 -- The sum over the members that pass is a sum over all, in which the others count 0.
-pub sum-keep {ℓ} : {A : Type ℓ} (test : A → Bool) (f : A → ℕ) (xs : List A) → sum (map f (keep test xs)) ≡ sum (map (λ x. if test x then f x else 0) xs)
+pub sum-keep {ℓ} : {A : Type ℓ} (test : A → Bool) (f : A → ℕ) (xs : List A) → sum (map f (keep test xs)) ≡ sum (map (λ x. cond (test x) (f x) 0) xs)
 sum-keep test f [] = refl
 sum-keep test f (x ∷ xs) = go (test x) (sum-keep test f xs)
   where
-    go : (b : Bool) → sum (map f (keep test xs)) ≡ sum (map (λ y. if test y then f y else 0) xs)
-        → sum (map f (if b then (x ∷ keep test xs) else keep test xs)) ≡ (if b then f x else 0) + sum (map (λ y. if test y then f y else 0) xs)
+    go : (b : Bool) → sum (map f (keep test xs)) ≡ sum (map (λ y. cond (test y) (f y) 0) xs)
+        → sum (map f (cond b (x ∷ keep test xs) (keep test xs))) ≡ (cond b (f x) 0) + sum (map (λ y. cond (test y) (f y) 0) xs)
     go true e = omega arith
     go false e = omega arith
 
 -- Of a run of numbers, a alone counts.
-pub sum_one : (f : ℕ → ℕ) (a i m : ℕ) → i ≤ a → a < i + m → sum (map (λ t. if eqb a t then f t else 0) (from i m)) ≡ f a
+pub sum_one : (f : ℕ → ℕ) (a i m : ℕ) → i ≤ a → a < i + m → sum (map (λ t. cond (eqb a t) (f t) 0) (from i m)) ≡ f a
 sum_one f a i zero h k = absurd (omega arith)
 sum_one f a i (suc m) h k = go (eqb a i) refl (λ l. sum_one f a (suc i) m l (omega arith))
   where
     rest : ℕ
-    rest = sum (map (λ t. if eqb a t then f t else 0) (from (suc i) m))
+    rest = sum (map (λ t. cond (eqb a t) (f t) 0) (from (suc i) m))
 
     none : a ≡ i → rest ≡ 0
-    none q = sum-none (λ t. if eqb a t then f t else 0) (from (suc i) m) (λ t b. rw (ne_eqb a t (λ e. omega (arith, from_low (suc i) m t b))) refl)
+    none q = sum-none (λ t. cond (eqb a t) (f t) 0) (from (suc i) m) (λ t b. rw (ne_eqb a t (λ e. omega (arith, from_low (suc i) m t b))) refl)
 
-    go : (b : Bool) → eqb a i ≡ b → (suc i ≤ a → rest ≡ f a) → (if b then f i else 0) + rest ≡ f a
+    go : (b : Bool) → eqb a i ≡ b → (suc i ≤ a → rest ≡ f a) → (cond b (f i) 0) + rest ≡ f a
     go true e r = let q = eqb-true a i e in omega (arith, ap f q, none q)
     go false e r = let ne = eqb-false a i e in omega (arith, r (omega arith))
 
@@ -56,20 +56,20 @@ sum-by_class value class s [] low = sum-none (λ t. 0) (from 0 s) (λ t m. refl)
 sum-by_class value class s (x ∷ xs) low =
     let one = sum_one (λ t. value t x) (class x) 0 s (omega arith) (omega (arith, low x (Memᴰ.head refl))) in
     let others = sum-by_class value class s xs (λ y m. low y (Memᴰ.tail m)) in
-    each (from 0 s) ∙ sum_add (λ t. if eqb (class x) t then value t x else 0) rest (from 0 s) ∙ omega arith
+    each (from 0 s) ∙ sum_add (λ t. cond (eqb (class x) t) (value t x) 0) rest (from 0 s) ∙ omega arith
   where
     rest : ℕ → ℕ
     rest t = sum (map (value t) (keep (λ y. eqb (class y) t) xs))
 
-    first : (t : ℕ) → sum (map (value t) (keep (λ y. eqb (class y) t) (x ∷ xs))) ≡ (if eqb (class x) t then value t x else 0) + rest t
+    first : (t : ℕ) → sum (map (value t) (keep (λ y. eqb (class y) t) (x ∷ xs))) ≡ (cond (eqb (class x) t) (value t x) 0) + rest t
     first t = go (eqb (class x) t)
       where
-        go : (b : Bool) → sum (map (value t) (if b then (x ∷ keep (λ y. eqb (class y) t) xs) else keep (λ y. eqb (class y) t) xs)) ≡ (if b then value t x else 0) + rest t
+        go : (b : Bool) → sum (map (value t) (cond b (x ∷ keep (λ y. eqb (class y) t) xs) (keep (λ y. eqb (class y) t) xs))) ≡ (cond b (value t x) 0) + rest t
         go true = refl
         go false = omega arith
 
     each : (ts : List ℕ) → sum (map (λ t. sum (map (value t) (keep (λ y. eqb (class y) t) (x ∷ xs)))) ts)
-        ≡ sum (map (λ t. (if eqb (class x) t then value t x else 0) + rest t) ts)
+        ≡ sum (map (λ t. (cond (eqb (class x) t) (value t x) 0) + rest t) ts)
     each [] = refl
     each (t ∷ ts) = omega (arith, first t, each ts)
 

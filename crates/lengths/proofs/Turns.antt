@@ -16,7 +16,7 @@ use Rattle.lengths.specs.Adding.{LengthsBefore, length-sum-low, lengths_more}
 
 -- The edge to node j, whose stage is on layer k.
 pub record LengthTurn (w below x was lengths : List ℕ) (nodes j k : ℕ) : Type 0 where
-  pub node_in_turn : j < max_nodes + 1
+  pub node_in : j < max_nodes + 1
   pub parent-lower : (at (net_in w) j).parent < j
   pub table-long : length below ≡ max_nodes + 1
   pub stage_in : (i : ℕ) → i ≤ nodes → get_or below i 0 < length x
@@ -39,7 +39,7 @@ length-turn {w} {nodes} H {stage} {below} S {x} F {was} {lengths} long low {j} P
     let k : on x (get_or below p 0) ≡ on x (stage_of n j) = ap (on x) e in
     let layer : on x (get_or below p 0) < length lengths = omega (arith, F.layered (get_or below p 0) t, A.few-layers, P.long) in
     record {
-      node_in_turn = omega (arith, A.few-nodes);
+      node_in = omega (arith, A.few-nodes);
       parent-lower = lower;
       table-long = S.below-long;
       stage_in = λ i b.

@@ -1,4 +1,6 @@
 // The total edge length of a plan on each layer (02, wish 2: `length` with layer and total edge length on it).
+#![tactic(auto)]
+
 ghost use Rattle.std.specs.Prelude.{◌≡◌, List, map, ℕ, ◌+◌, ◌≤◌, length, get_or};
 ghost use Rattle.laws.specs.Basic.{from};
 ghost use Rattle.rules.specs.Bytes.{max_layers};

@@ -3,3 +3,4 @@ pub mod Outcomes
 pub mod ThinTwo
 pub mod ThinOne
 pub mod Seen
+pub mod Said

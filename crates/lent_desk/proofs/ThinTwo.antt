@@ -3,14 +3,14 @@
 -- where g(v: Desk, a: uN, b: uM) -> Changed ensures r ≡ F v a b. Then f answers `(F h a b).answer` and leaves `(F h a b).desk` in the desk, h being what stood
 -- there; so whatever P says of `F h a b` may be ensured of the two.
 --     ValueTwo        the contract that g meets
---     lent_two, lends-two  f's signature and clauses, to which the generated ones compute
+--     lent_two, lends_two  f's signature and clauses, to which the generated ones compute
 --     thin-two         f's MIR, to which the generated one computes
 --     thin-two-meets   f's MIR meets f's contract, over tables in which g meets its own
 use mathlib.Core.Path.{◌≡◌, refl}
 use Prim.Native.Nat.{ℕ, ◌<◌, ◌^◌}
 use mathlib.Core.List.{[], ◌∷◌, List}
 use seplogic.Ra.Ura.{Ura}
-use mir.Syntax.{Width, Name, Fn, named, mut, w8, ty_int, ty_ref, local, value_local, place, deref, field, copy, rv_opd, assign, call, seq, return}
+use mir.Syntax.{Width, Callee as Name, Fn, named, mut, w8, ty_int, ty_ref, local, value_local, place, deref, field, copy, rv_opd, assign, call, seq, return}
 use mir.Val.{Val, vint, vptr, bits}
 use base.Logic.{SProp, ent, sep, emp, via, fst∗, id⊢}
 use base.Fml.{GName, Lft, Share, Fml, ftrue, flft, fobs, fbor}
@@ -92,13 +92,16 @@ module _ (w₁ w₂ : Width) (g : Name) (F : Desk → ℕ → ℕ → Changed) (
   thin-two = record {
     lifetimes = 1;
     outlives = [];
+    ty_params = [];
+    givens = 0;
     params = 3;
     locals = local (ty_int w8) value_local ∷ local (ty_ref (named 0) mut (pointee R.written)) value_local ∷ local (ty_int w₁) value_local ∷ local
-        (ty_int w₂) value_local ∷ local T'.mir value_local ∷ local O'.mir value_local ∷ [];
+        (ty_int w₂) value_local ∷ local T'.mir value_local ∷ local O'.mir value_local ∷ local T'.mir value_local ∷ [];
     body = seq (assign (place 4 []) (rv_opd (copy (place 1 (deref T'.mir ∷ [])))))
         (seq (call g (copy (place 4 []) ∷ copy (place 2 []) ∷ copy (place 3 []) ∷ []) (place 5 []))
-        (seq (assign (place 1 (deref T'.mir ∷ [])) (rv_opd (copy (place 5 (field 0 ∷ [])))))
-        (seq (assign (place 0 []) (rv_opd (copy (place 5 (field 1 ∷ []))))) return)));
+        (seq (assign (place 6 []) (rv_opd (copy (place 5 (field 0 ∷ [])))))
+        (seq (assign (place 1 (deref T'.mir ∷ [])) (rv_opd (copy (place 6 []))))
+        (seq (assign (place 0 []) (rv_opd (copy (place 5 (field 1 ∷ []))))) return))));
   }
 
   abbrev stayed : Stays lent_two.signature.params lent_two.kept
@@ -143,8 +146,8 @@ module _ (w₁ w₂ : Width) (g : Name) (F : Desk → ℕ → ℕ → Changed) (
     to = ((tt, tt, tt, (h, (n, (l, tt))), (mach h ∷ [], (vint w₁ n ∷ [], (vint w₂ l ∷ [], tt)))), tt)
 
     -- what g asks, and what it leaves
-    asks : ent 𝓤 (sep 𝓤 (sem 𝓛 (R.own h (mach h ∷ []))) (sem 𝓛 Rest)) ((ValueTwo 𝓛).pre to)
-    asks = qed 𝓛 (‵ (R.own h (mach h ∷ [])) ∷ ‵ Rest ∷ []) ∵ fjoin ! $ nothing ! $ join ! $ frame ! $ done !
+    asks : ent 𝓤 (sep 𝓤 (sem 𝓛 (R.own_val h (mach h ∷ []))) (sem 𝓛 Rest)) ((ValueTwo 𝓛).pre to)
+    asks = qed 𝓛 (‵ (R.own_val h (mach h ∷ [])) ∷ ‵ Rest ∷ []) ∵ fjoin ! $ nothing ! $ join ! $ frame ! $ done !
 
     leaves : (v : Val) → ent 𝓤 ((ValueTwo 𝓛).post to v) (H.⇛ (sep 𝓤 (sem 𝓛 ((O.the_row).own_val r (v ∷ []))) (sem 𝓛 ftrue)))
     leaves v =
@@ -159,22 +162,22 @@ module _ (w₁ w₂ : Width) (g : Name) (F : Desk → ℕ → ℕ → Changed) (
       walk =
           qed 𝓛 ((‵ (flft κ q) ⊛ ‵ ftrue) ∷ ‵ (owns (MutRef (named 0) κ R ∷ UInt w₁ ∷ UInt w₂ ∷ []) x at) ∷ []) ∵ enter ! C Λ thin-two
           (vptr b o ∷ vint w₁ n ∷ vint w₂ l ∷ []) _ $
-          alloc1 ! (λ l₀. alloc1 ! (λ l₁. alloc1 ! (λ l₂. alloc1 ! (λ l₃. alloc1 ! (λ l₄. alloc1 ! (λ l₅. alloc0 ! $ params1 ! $
-          pass1 ! (init ! 8 refl (tt, tt)) $ pass1 ! (init ! 6 refl ((uint_Lawful 𝓛 w₁).typed n _ (refl, n-fits)).0) $
-          pass1 ! (init ! 4 refl ((uint_Lawful 𝓛 w₂).typed l _ (refl, l-fits)).0) $ pass0 ! $
-          move ! (13 ∷ []) $ fsplit ! $ fsplit3 ! $ drop ! $ move ! (15 ∷ []) $ split ! $
-          -- [the token; true; obs; the borrow; the others'; _5; …; _4; …; _3; …; _2; …; _1; …; room for _0; …]
-          move ! (2 ∷ 3 ∷ 0 ∷ 4 ∷ 13 ∷ 7 ∷ 5 ∷ 15 ∷ []) $
-          thin_body ν (ty_int w8) O.the_row (λ (z : Changed). z.desk) (λ (z : Changed). vint w8 z.answer) ! l₀ l₁ l₄ l₅ _ fm
-          (ValueTwo 𝓛) to refl refl h r (‵ Rest) (‵ ftrue)
+          alloc1 ! (λ l₀. alloc1 ! (λ l₁. alloc1 ! (λ l₂. alloc1 ! (λ l₃. alloc1 ! (λ l₄. alloc1 ! (λ l₅. alloc1 ! (λ l₆. alloc0 ! $ params1 ! $
+          pass1 ! (init ! 10 refl (tt, tt)) $ pass1 ! (init ! 8 refl ((uint_Lawful 𝓛 w₁).typed n _ (refl, n-fits)).0) $
+          pass1 ! (init ! 6 refl ((uint_Lawful 𝓛 w₂).typed l _ (refl, l-fits)).0) $ pass0 ! $
+          move ! (15 ∷ []) $ fsplit ! $ fsplit3 ! $ drop ! $ move ! (17 ∷ []) $ split ! $
+          -- [the token; true; obs; the borrow; the others'; _6; …; _5; …; _4; …; _3; …; _2; …; _1; …; room for _0; …]
+          move ! (2 ∷ 3 ∷ 0 ∷ 4 ∷ 15 ∷ 9 ∷ 7 ∷ 5 ∷ 17 ∷ []) $
+          thin_body ν (ty_int w8) O.the_row (λ (z : Changed). z.desk) (λ (z : Changed). vint w8 z.answer) ! l₀ l₁ l₄ l₅ l₆ _ fm
+          (ValueTwo 𝓛) to refl refl refl h r (‵ Rest) (‵ ftrue)
           (record { known = known; told = outcome_tells 𝓛 r; asks = asks; leaves = leaves }) b o
-          (λ k₀ k₁ k₂ k₃ k₄ k₅. and_then ! (load ! (from ! (stop !)) (look ! 6 refl)) (and_then ! (load ! (from ! (stop !)) (look ! 14 refl))
-          (and_then ! (load ! (from ! (stop !)) (look ! 12 refl)) (no_more !)))) (λ v is.
-          -- [obs; the borrow; the token; true; _1; _4; _5; _0; true; _5's; _4's; _3; …; _2; …; _1's; _0's]
-          forget ! 4 refl $ forget ! 5 refl $ forget ! 6 refl $ forget ! 7 refl $ forget ! 11 refl $ forget ! 13 refl $
-          move ! (7 ∷ 16 ∷ []) $ free1 ! $ move ! (4 ∷ 14 ∷ []) $ free1 ! $ move ! (11 ∷ 12 ∷ []) $ free1 ! $ move ! (9 ∷ 10 ∷ []) $ free1 ! $
-          move ! (4 ∷ 8 ∷ []) $ free1 ! $ move ! (4 ∷ 6 ∷ []) $ free1 ! $ free0 ! $
-          keep ! (0 ∷ 1 ∷ 2 ∷ []) $ by ! (exits (answer-fits r v is)))))))))
+          (λ k₀ k₁ k₂ k₃ k₄ k₅. and_then ! (load ! (from ! (stop !)) (look ! 6 refl)) (and_then ! (load ! (from ! (stop !)) (look ! 16 refl))
+          (and_then ! (load ! (from ! (stop !)) (look ! 14 refl)) (no_more !)))) (λ v is.
+          -- [obs; the borrow; the token; true; _1; _4; _5; _6; _0; true; _6's; _5's; _4's; _3; …; _2; …; _1's; _0's]
+          forget ! 4 refl $ forget ! 5 refl $ forget ! 6 refl $ forget ! 7 refl $ forget ! 8 refl $ forget ! 13 refl $ forget ! 15 refl $
+          move ! (8 ∷ 18 ∷ []) $ free1 ! $ move ! (4 ∷ 16 ∷ []) $ free1 ! $ move ! (13 ∷ 14 ∷ []) $ free1 ! $ move ! (11 ∷ 12 ∷ []) $ free1 ! $
+          move ! (4 ∷ 10 ∷ []) $ free1 ! $ move ! (4 ∷ 8 ∷ []) $ free1 ! $ move ! (4 ∷ 6 ∷ []) $ free1 ! $ free0 ! $
+          keep ! (0 ∷ 1 ∷ 2 ∷ []) $ by ! (exits (answer-fits r v is))))))))))
 
   module _ {M : Type 1} {𝓤 : Ura M} (𝓛 : Logic 𝓤) where
     open 𝓛 use {H}

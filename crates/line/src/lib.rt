@@ -1,5 +1,7 @@
 // The lines that the programs print (01, Program; the counts of 01, Reading), written into a buffer: their bytes are those of the definitions, and the
-// bytes after them keep their values. Each also promises `Counts`, so that a caller may lend `&out[..n]` with no proof of its own.
+// bytes after them keep their values. Each also promises `IsPrefixLen`, so that a caller may lend `&out[..n]` with no proof of its own.
+#![tactic(auto)]
+
 ghost use Rattle.std.specs.Prelude.{◌≡◌, ◌++◌, ◌+◌, ◌*◌, ◌≤◌, length, drop};
 ghost use Rattle.io.specs.Counts.{IsPrefixLen};
 ghost use Rattle.rules.specs.Bytes.{max_stages};

@@ -49,7 +49,7 @@ module _ {n : Net} (A : Accepted n) (first : List ℕ) {j l : ℕ} (h : 1 ≤ j)
 -- The stage of edge j as code looks it up, which is that of the wire below the upper end of the edge, and the first layer of that stage.
 pub record Staging (n : Net) (below first : List ℕ) (w j : ℕ) : Type 0 where
   pub parent-lower : (at n j).parent < j
-  pub node_in_turn : j ≤ max_nodes
+  pub node_in : j ≤ max_nodes
   pub below-long : length below ≡ max_nodes + 1
   pub each_in : (i : ℕ) → i ≤ j → get_or below i 0 < max_stages
   pub first_in : (i : ℕ) → i ≤ j → get_or below i 0 < length first
@@ -66,7 +66,7 @@ staging {n} A {stage} {below} {first} {w} {j} S C a b =
     let h : get_or below (at n j).parent 0 < stages n = omega (arith, stage-below A j a b) in
     record {
       parent-lower = lower;
-      node_in_turn = omega (arith, A.few-nodes);
+      node_in = omega (arith, A.few-nodes);
       below-long = S.below-long;
       each_in = λ i k. omega (arith, low i k, A.few-stages);
       first_in = λ i k. omega (arith, low i k, C.long);

@@ -1,11 +1,11 @@
 -- The edges of each stage, counted in the walk from the last node to the first (02, wish 4): before node j is taken each count is that of the stage's edges
 -- after j, and the edge to j is counted to its own stage, whatever it leads to.
-use Rattle.std.specs.Prelude.{◌≡◌, ◌⊎◌, List, map, ℕ, suc, ◌+◌, ◌-◌, ◌≤◌, ◌<◌, eqb, length, get_or, set, replicate}
+use Rattle.std.specs.Prelude.{◌≡◌, ◌⊎◌, List, map, ℕ, suc, ◌+◌, ◌-◌, ◌≤◌, ◌<◌, eqb, length, get_or, set, replicate, if◌then◌else◌}
 use Rattle.std.proofs.Common.{ap, sym, ◌∙◌, inl, inr, arith, length-set, get_or-set_same, get_or-set_other, Fits, eq-eqb, ne_eqb}
 use Rattle.std.proofs.Math.Nat.{sub-zero}
 use Rattle.std.proofs.lemmas.List.{length-replicate}
 use Rattle.std.specs.Int.{w64}
-use Rattle.laws.specs.Basic.{if◌then◌else◌, from, sum}
+use Rattle.laws.specs.Basic.{from, sum}
 use Rattle.laws.specs.Booleans.{same_or}
 use Rattle.laws.specs.Lists.{map_same}
 use Rattle.rules.specs.Tree.{Net, edges_of, stage_of, stages}

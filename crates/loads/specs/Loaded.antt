@@ -1,10 +1,9 @@
 -- The loads, from the last node to the first: before node j is taken, each entry is what the children after j add to it, so the load at j is whole, and j
 -- adds its wire and the load at its lower end to the load at its parent (01, Timing rule; source 001, section 2: all wire of the stage counts).
-use Rattle.std.specs.Prelude.{◌≡◌, refl, ◌⊎◌, List, ℕ, zero, suc, ◌+◌, ◌*◌, ◌-◌, ◌≤◌, ◌<◌, eqb, length, get_or, replicate}
+use Rattle.std.specs.Prelude.{◌≡◌, refl, ◌⊎◌, List, ℕ, zero, suc, ◌+◌, ◌*◌, ◌-◌, ◌≤◌, ◌<◌, eqb, length, get_or, replicate, if◌then◌else◌}
 use Rattle.std.proofs.Common.{sym, ◌∙◌, inl, inr, arith, zero-add, suc-add, add-zero, eq-eqb, ne_eqb}
 use Rattle.std.proofs.Math.Nat.{sub-zero}
 use Rattle.std.proofs.lemmas.List.{length-replicate}
-use Rattle.laws.specs.Basic.{if◌then◌else◌}
 use Rattle.laws.specs.Booleans.{same_or}
 use Rattle.rules.specs.Tree.{Net, at, stage_of, on}
 use Rattle.rules.specs.Bytes.{max_nodes}

@@ -1,6 +1,8 @@
 // The load at each node (01, Timing rule; source 001, section 2), in time linear in nodes × columns. A table has a row of columns for each node. Column c of a
 // stage stands for the layer that is c after `first` of the stage: judging has one column, the plan's layer, and planning one for each layer. Loads are kept in
 // 32 bits, which they always fit. The walk that sums them also counts the edges of each stage (02, wish 4).
+#![tactic(auto)]
+
 ghost use Rattle.std.specs.Prelude.{◌≡◌, List, map, ℕ, ◌+◌, ◌≤◌, ◌<◌, length, get_or};
 ghost use Rattle.laws.specs.Basic.{from, sum};
 ghost use Rattle.rules.specs.Tree.{stages, edges_of};

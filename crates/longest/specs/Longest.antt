@@ -1,7 +1,7 @@
 -- Reading needs only the first bytes of its input: the first fault lies there, and what is accepted ends there. A layers field ends by byte 99, a
 -- driver field by byte 118, and a node's field takes 71 bytes, 12 more for a buffer or a sink. Of the 255 nodes that are taken at most 63 are buffers
 -- and at most 128 are sinks, because a parent is no sink and has at most two children. So the nodes end by byte 20,515, and one field more by 20,598.
-use Rattle.std.specs.Prelude.{◌≡◌, Bool, ◌||◌, ◌⊎◌, ℤ, length, take}
+use Rattle.std.specs.Prelude.{◌≡◌, Bool, ◌||◌, ◌⊎◌, ℤ, length, take, cond, if◌then◌else◌}
 use Rattle.std.proofs.Math.Path.{refl, ap}
 use Rattle.std.proofs.Common.{◌∙◌, inl, inr, one-add, length-take}
 use Rattle.std.proofs.Math.Bool.{true, false, not}
@@ -11,7 +11,7 @@ use native.Mathlib.Omega.{arith}
 use Rattle.std.proofs.Math.Dec.{leb, ltb, eqb}
 use Rattle.std.proofs.Math.Seq.{get_or-take}
 use borrow.Author.Tests.{eqb-true, ne_eqb, leb-true, ltb-true, not-true}
-use Rattle.laws.specs.Basic.{if◌then◌else◌, bit, from, sum, all, keep, within}
+use Rattle.laws.specs.Basic.{bit, from, sum, all, keep, within}
 use Rattle.laws.specs.Booleans.{and_left, and_right, and_three, leb-same, same_or, bit_le}
 use Rattle.laws.specs.Lists.{length_from, length_more, others-are, keep-more, map_same, from-mem, count-by-number}
 use Rattle.laws.specs.Sums.{sum_add, sum_one, sum-from}
@@ -168,7 +168,7 @@ pass_or_fail test [] = omega arith
 pass_or_fail test (x ∷ xs) = go (test x) (pass_or_fail test xs)
   where
     go : (b : Bool) → length (keep test xs) + sum (map (λ x. bit (not (test x))) xs) ≡ length xs
-        → length (if b then (x ∷ keep test xs) else keep test xs) + (bit (not b) + sum (map (λ x. bit (not (test x))) xs)) ≡ suc (length xs)
+        → length (cond b (x ∷ keep test xs) (keep test xs)) + (bit (not b) + sum (map (λ x. bit (not (test x))) xs)) ≡ suc (length xs)
     go true e = omega arith
     go false e = omega arith
 

@@ -1,1 +1,3 @@
+#![tactic(auto)]
+
 // No code: that reading needs only the front of its input stands in specs/.

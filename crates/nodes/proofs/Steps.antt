@@ -1,4 +1,5 @@
 -- One node field: what the tests of 4, 3 and 5 and the whole step give at the values that the code has in hand.
+use Rattle.std.specs.Prelude.{if◌then◌else◌}
 use mathlib.Core.Path.{◌≡◌, refl, ap, sym, ◌∙◌, subst}
 use mathlib.Core.Bool.{Bool, true, false, ◌&&◌}
 use mathlib.Core.List.{List}
@@ -8,7 +9,6 @@ use lib.Dec.{leb, ltb, eqb}
 use lib.ListN.{length, get_or}
 use mathlib.Core.Logic.{◌⊎◌, inl, inr}
 use borrow.Author.Tests.{lt-ltb, le-ltb, le-leb, lt-leb, eq-eqb, ne_eqb, eqb-true, ltb-true}
-use Rattle.laws.specs.Basic.{if◌then◌else◌}
 use Rattle.laws.specs.Booleans.{and_left, and_right, same_or}
 use Rattle.rules.specs.Tree.{is_buffer}
 use Rattle.rules.specs.Bytes.{steiner_tag, buffer_tag, max_nodes, max_stages, max_length, max_children}

@@ -1,11 +1,13 @@
 // One node field (01, Reading): the field's own faults, then the tests 4, 3, 5 in their order; the node is put into its row of the array.
+#![tactic(auto)]
+
 ghost use Rattle.std.specs.Prelude.{◌≡◌, ◌+◌, ◌≤◌, ◌<◌, length};
 ghost use Rattle.rules.specs.Bytes.{max_layers, max_nodes};
 ghost use Rattle.words.specs.Words.{row_for, Rows};
 ghost use Rattle.nodes.specs.Steps.{room_for, ranges_of, parent_for, step_refusal, StepRead};
 
 use fields::{Due, Found, field_at, found_refusal, kind_in_range};
-use words::{Node, node_in_turn, put_node};
+use words::{Node, node_in, put_node};
 
 // Whether there is room for one more node, of this tag (refusal 4).
 fn has_room(count: usize, buffers: usize, tag: u32) -> bool
@@ -47,7 +49,7 @@ fn may_have_child(kids: &[u16], count: usize, parent: usize) -> bool
 }
 
 // What reading a node field gives: its record and where the next field starts, or a refusal number.
-#[derive(Drop)]
+#[derive(Clone, Copy)]
 pub enum Step {
     Node { node: Node, next: usize },
     Refused(u8),
@@ -97,7 +99,7 @@ pub fn read_node(
     }
     let row = row_for(keep, count);
     let costs = put_node(net, tag, start, layers, row, words);
-    let node = node_in_turn(words, row);
+    let node = node_in(words, row);
     let parent = node.parent;
     if !in_ranges(node, costs) {
         return Step::Refused(3);

@@ -2,14 +2,14 @@
 -- only the columns from `start` to before `end`: with less than `start` no time that is asked is kept, and what is not kept before `end` is kept with no
 -- budget up to hi. Every step of the search keeps this: a leaf, a branch over a delay and under a limit, two branches merged by two pointers
 -- (source 001, section 4.2.2), the best of the layers at their costs, and leaving columns out in front and behind.
-use Rattle.std.specs.Prelude.{◌≡◌, refl, Bool, ◌&&◌, ◌||◌, ◌⊎◌, ◌↔◌, List, [], ◌∷◌, leb, ℤ, pos, ◌+ℤ◌, ◌-ℤ◌}
+use Rattle.std.specs.Prelude.{◌≡◌, refl, Bool, ◌&&◌, ◌||◌, ◌⊎◌, ◌↔◌, List, [], ◌∷◌, leb, ℤ, pos, ◌+ℤ◌, ◌-ℤ◌, if◌then◌else◌}
 use Rattle.std.proofs.Common.{ap, sym, ◌∙◌, inl, inr, arith, leb-true, leb-false, le-leb}
 use Rattle.std.proofs.Math.Bool.{true, false}
 use Prim.Native.Nat.{ℕ, zero, suc, ◌+◌, ◌*◌, ◌-◌, ◌≤◌, ◌<◌, min}
 use Rattle.std.proofs.Math.Decide.{dec_le}
 use Rattle.std.specs.Int.Signed.{le_z}
 use Rattle.std.proofs.lemmas.Bool.{lt-leb}
-use Rattle.laws.specs.Basic.{if◌then◌else◌, min_z, least_of}
+use Rattle.laws.specs.Basic.{min_z, least_of}
 use Rattle.laws.specs.Booleans.{both, leb-same}
 use Rattle.laws.specs.Integers.{le_true, le_false, false_le, adjoint, le_min_z, le_trans, min-right, all_le, le_least_z}
 use Rattle.laws.specs.Extremes.{max_z, le_max_z}

@@ -19,6 +19,7 @@ each_at L (l ∷ ls) (suc i) (a, u) h = each_at L ls i u (omega arith)
 
 -- Members of `before`.
 mem-before : {l : ℕ} (ls : List ℕ) {t : List ℕ} (ts : List (List ℕ)) → Memᴰ l ls → Memᴰ t ts → Memᴰ (l ∷ t) (before ls ts)
+mem-before {l = l} [] {t = t} ts x m = elim x [ ]
 mem-before (k ∷ ls) {t} ts (Memᴰ.head e) m = Memᴰ.cast (ap (λ z. z ∷ t) e) (Memᴰ.append_left (before ls ts) (mem-map (λ t. k ∷ t) m))
 mem-before (k ∷ ls) ts (Memᴰ.tail h) m = Memᴰ.append_right (map (λ t. k ∷ t) ts) (mem-before ls ts h m)
 

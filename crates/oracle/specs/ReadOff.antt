@@ -1,14 +1,14 @@
 -- The plan read off the table: at each stage in number order, the first layer with which the part of the tree at and below it is charged the least.
 -- It is the first plan of least charge in plan order. The budget is the least itself, so every stage must spend just the least for the time at which it
 -- is reached, and those times are settled by stages that come before it in plan order.
-use Rattle.std.specs.Prelude.{◌≡◌, refl, Bool, true, false, ℕ, zero, suc, ◌+◌, ◌-◌, ◌≤◌, ◌<◌, leb, ℤ}
+use Rattle.std.specs.Prelude.{◌≡◌, refl, Bool, true, false, ℕ, zero, suc, ◌+◌, ◌-◌, ◌≤◌, ◌<◌, leb, ℤ, if◌then◌else◌}
 use Rattle.std.proofs.Common.{ap, ◌∙◌, arith, leb-true, leb-false, le-leb}
 use Rattle.std.proofs.Math.Path.{fun_ext}
 use Rattle.std.proofs.Math.Option
 use Rattle.std.proofs.Math.Option.{none, some, get_or, or_else}
 use mathlib.Core.List.{List, [], ◌∷◌, map, Memᴰ}
 use Rattle.std.proofs.lemmas.Bool.{lt-leb}
-use Rattle.laws.specs.Basic.{if◌then◌else◌, from}
+use Rattle.laws.specs.Basic.{from}
 use Rattle.laws.specs.Booleans.{leb-same}
 use Rattle.laws.specs.Lists.{mem-from, from-mem, head-keep, find, find-keep}
 use Rattle.laws.specs.Extremes.{lowest_le, lowest-some}

@@ -1,11 +1,11 @@
 -- Rounds on a tree of stages (02, wish 7): the k's in their order, the plans seen, the cheapest of them, and what one round more does to it.
-use Rattle.std.specs.Prelude.{◌≡◌, true, ℕ, suc, ◌-◌, ◌*◌, ◌≤◌, eqb, ltb}
+use Rattle.std.specs.Prelude.{◌≡◌, true, ℕ, suc, ◌-◌, ◌*◌, ◌≤◌, eqb, ltb, if◌then◌else◌}
 use Rattle.std.proofs.Math.Path.{refl}
 use Rattle.std.proofs.Common.{ap, sym, ◌∙◌, arith, zero-add}
 use Rattle.std.proofs.Math.Option.{Option, some}
 use mathlib.Core.List.{List, [], ◌∷◌, ◌++◌, map, map-append, Memᴰ}
 use borrow.Author.Tests.{eqb-true, eq-eqb}
-use Rattle.laws.specs.Basic.{if◌then◌else◌, from, sum, somes, first_lowest}
+use Rattle.laws.specs.Basic.{from, sum, somes, first_lowest}
 use Rattle.laws.specs.Booleans.{and_both}
 use Rattle.laws.specs.Lists.{from_more, from-mem, mem-from, mem-map, map-mem, find-keep}
 use Rattle.laws.specs.First.{find_narrower}

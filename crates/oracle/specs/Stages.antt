@@ -1,10 +1,10 @@
 -- A tree of stages by plain numbers: all that the search knows of a net. How a net gives these numbers is no matter here.
 -- In this crate i and j name stages, l a layer, x a plan (a layer for each stage), t a time at which a stage's gate input is reached, w a budget or
 -- column, k the exponent of the grain 2^k.
-use Rattle.std.specs.Prelude.{◌≡◌, Bool, ◌⊎◌, ℕ, suc, ◌-◌, ◌≤◌, ◌<◌, eqb, ℤ, pos, ◌+ℤ◌}
+use Rattle.std.specs.Prelude.{◌≡◌, Bool, ◌⊎◌, ℕ, suc, ◌-◌, ◌≤◌, ◌<◌, eqb, ℤ, pos, ◌+ℤ◌, if◌then◌else◌}
 use Rattle.std.proofs.Common.{inr, arith, eqb-true, eq-eqb}
 use mathlib.Core.List.{List, map, Memᴰ}
-use Rattle.laws.specs.Basic.{if◌then◌else◌, from, keep}
+use Rattle.laws.specs.Basic.{from, keep}
 use Rattle.laws.specs.Lists.{mem-from, from-mem, from_low, mem-keep, keep-mem, some-mem, Some}
 use Rattle.rules.specs.Tree.{on, plans_of}
 

@@ -1,6 +1,6 @@
 -- Required times of a plan, and that it meets timing just where no sink is late once the arrival time is pushed forward through the tree
 -- (01, Timing rule; source 001, section 2). So meeting timing and cost are both sums over the stages, which the programme can search.
-use Rattle.std.specs.Prelude.{◌≡◌, refl, Bool, true, false, ◌&&◌, ◌↔◌, length, drop, ◌-ℤ◌}
+use Rattle.std.specs.Prelude.{◌≡◌, refl, Bool, true, false, ◌&&◌, ◌↔◌, length, drop, ◌-ℤ◌, if◌then◌else◌}
 use Rattle.std.proofs.Math.Path.{ap, sym}
 use Rattle.std.proofs.Common.{◌∙◌, inl, inr, drop_of_length-le, drop-cons}
 use mathlib.Core.List.{List, [], ◌∷◌, ◌++◌, map, map-append}
@@ -8,7 +8,7 @@ use Prim.Native.Nat.{ℕ, zero, suc, ◌+◌, ◌*◌, ◌-◌, ◌/◌, ◌^◌
 use native.Mathlib.Omega.{arith}
 use Rattle.std.proofs.Math.IntN.{ℤ, pos}
 use Rattle.std.specs.Int.Signed.{le_z}
-use Rattle.laws.specs.Basic.{if◌then◌else◌, from, sum, keep, least_of}
+use Rattle.laws.specs.Basic.{from, sum, keep, least_of}
 use Rattle.laws.specs.Integers.{all_le, le_least_z, adjoint}
 use Rattle.laws.specs.Lists.{map-map, map_same, some-map, some_left, some_right, Some}
 use Rattle.laws.specs.Sums.{sum_append}

@@ -1,1 +1,3 @@
+#![tactic(auto)]
+
 // No code: the theory of the search stands in specs/.

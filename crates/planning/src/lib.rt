@@ -1,4 +1,7 @@
 // Planning a net that was read (01, Planning): the numbers of its tree of stages, the search over the grains, and what the plan found costs.
+
+#![tactic(auto)]
+
 ghost use Rattle.std.specs.Prelude.{◌≡◌, List, ℕ, ◌*◌, length, replicate};
 ghost use Rattle.rules.specs.Bytes.{max_layers, max_stages};
 ghost use Rattle.rules.specs.Reading.{accept, read};

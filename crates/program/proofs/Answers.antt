@@ -9,7 +9,6 @@ use Rattle.rules.specs.declared.Planned.{Planned}
 use Rattle.rules.specs.declared.Checked.{Checked}
 use Rattle.rules.specs.Bytes.{max_stages}
 use Rattle.rules.specs.Tree.{Net, stages}
-use Rattle.rules.specs.Timing.{cost, slack}
 use Rattle.rules.specs.Grain.{max_exponent}
 use Rattle.rules.specs.Reading.{accept, read, check}
 use Rattle.rules.specs.Planning.{plan, plan_answer}

@@ -1,6 +1,5 @@
 -- The line that checking prints, as bytes: `counts_line` if it accepts the net, `refused_line` if it refuses.
-use Rattle.std.specs.Prelude.{List, ℕ, eqb}
-use Rattle.laws.specs.Basic.{if◌then◌else◌}
+use Rattle.std.specs.Prelude.{List, ℕ, eqb, if◌then◌else◌}
 use Rattle.rules.specs.declared.Checked.{Checked}
 use Rattle.rules.specs.Reading.{check}
 use Rattle.rules.specs.Program.{refused_line}

@@ -1,5 +1,7 @@
 // What the programs print: the line for the net that an input holds, of planning (01, Program) and of checking (01, Reading), and the report over the block
 // that an input is (02, wish 2).
+#![tactic(auto)]
+
 ghost use Rattle.std.specs.Prelude.{◌≡◌, ◌++◌, ◌≤◌, ◌^◌, length, drop};
 ghost use Rattle.io.specs.Counts.{IsPrefixLen};
 ghost use Rattle.rules.specs.Grain.{max_exponent};

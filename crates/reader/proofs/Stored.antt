@@ -11,7 +11,6 @@ use Rattle.laws.specs.Basic.{from}
 use Rattle.laws.specs.Lists.{from_more, length_more}
 use Rattle.rules.specs.Tree as tree
 use Rattle.rules.specs.Bytes.{Field, max_layers, buffer_tag, node_at, driver_at}
-use Rattle.words.specs.declared.Node.{Node}
 use Rattle.words.specs.Words.{rows_at, node_row, count_at, row_for, Rows, cell, node_in, nodes_in, driver_in, layers_in, net_in}
 use Rattle.words.specs.Puts.{DriverPut}
 use Rattle.words.proofs.Cells.{nodes-same}

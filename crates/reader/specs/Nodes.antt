@@ -5,7 +5,6 @@ use Rattle.rules.specs.Tree as tree
 use Rattle.rules.specs.Tree.{is_sink, node}
 use Rattle.rules.specs.Bytes.{max_length, max_nodes, max_children}
 use Rattle.rules.specs.Reading.{Answer, accept, refuse, ◌>>=◌, ◌>>◌, ◌unless◌, children, buffers, nodes_from, is_whole}
-use Rattle.words.specs.declared.Node.{Node}
 use Rattle.words.specs.Words.{node_row, nodes_in}
 use Rattle.reader.specs.declared.Nodes.{Nodes}
 use Rattle.reader.specs.declared.Nodes.TheVariants as nodes

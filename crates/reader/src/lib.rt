@@ -1,4 +1,6 @@
 // Reading a net (01, Reading): node fields one after the other, the tree that they make, the whole net.
+#![tactic(auto)]
+
 ghost use Rattle.std.specs.Prelude.{◌≡◌, ◌+◌, ◌*◌, ◌≤◌, ◌<◌, length, replicate};
 ghost use Rattle.laws.specs.Basic.{bit};
 ghost use Rattle.rules.specs.Tree.{is_sink, is_buffer};
@@ -49,7 +51,7 @@ fn sink_places(kind: Kind) -> u16
 }
 
 // What reading the nodes gives: how many there are and how many of them are buffers, or a refusal number.
-#[derive(Drop)]
+#[derive(Clone, Copy)]
 pub enum Nodes {
     Tree { count: usize, buffers: usize },
     Refused(u8),
@@ -131,7 +133,7 @@ fn tree_from(net: &[u8], first: usize, layers: usize, keep: bool, words: &mut [u
 }
 
 // What reading a net gives: its nodes after the driver, stages and layers, or the number of the first fault.
-#[derive(Drop)]
+#[derive(Clone, Copy)]
 pub enum Net {
     Read {
         nodes: usize,

@@ -1,5 +1,6 @@
 -- Reading the plan, stage after stage: what is read so far, and then what the definition reads from the times now, is the whole plan; what is left to
 -- pay stays within the columns, and no time leaves its bounds.
+use Rattle.std.specs.Prelude.{if◌then◌else◌}
 use mathlib.Core.Path.{◌≡◌, refl, ap, sym, ◌∙◌}
 use mathlib.Core.Bool.{Bool, true, false}
 use mathlib.Core.List.{List, [], ◌∷◌, ◌++◌, append_assoc, append-nil}
@@ -12,7 +13,6 @@ use lib.IntN.{ℤ, pos}
 use lib.ListN.{length, get_or, drop, set, length-set}
 use lib.Seq.{drop-cons, set_at, get_or-set_same}
 use borrow.Author.Tests.{eqb-true, eqb-false, ltb-true, lt-ltb}
-use Rattle.laws.specs.Basic.{if◌then◌else◌}
 use Rattle.laws.specs.Lists.{length_more}
 use Rattle.laws.specs.Integers.{up, down, plus-up, plus-down}
 use Rattle.rules.specs.Bytes.{max_time}

@@ -1,6 +1,5 @@
 -- What the functions that read the plan off the table ask and promise.
-use Rattle.std.specs.Prelude.{◌≡◌, Bool, true, List, ◌++◌, ℕ, ◌+◌, ◌*◌, ◌-◌, ◌/◌, ◌^◌, ◌≤◌, ◌<◌, min, leb, eqb, length, get_or, drop, ℤ, pos, ◌+ℤ◌}
-use Rattle.laws.specs.Basic.{if◌then◌else◌}
+use Rattle.std.specs.Prelude.{◌≡◌, Bool, true, List, ◌++◌, ℕ, ◌+◌, ◌*◌, ◌-◌, ◌/◌, ◌^◌, ◌≤◌, ◌<◌, min, leb, eqb, length, get_or, drop, ℤ, pos, ◌+ℤ◌, if◌then◌else◌}
 use Rattle.laws.specs.Integers.{up, down}
 use Rattle.rules.specs.Bytes.{max_layers}
 use Rattle.fanout.specs.Clauses.{Linked}

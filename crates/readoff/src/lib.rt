@@ -1,4 +1,6 @@
 // The plan read off the finished work table: columns looked up in its rows, and at each stage in number order the first layer that attains the least.
+#![tactic(auto)]
+
 ghost use Rattle.std.specs.Prelude.{◌≡◌, ◌+◌, ◌*◌, ◌≤◌, ◌<◌, length};
 ghost use Rattle.oracle.specs.Stages.{StageTree};
 ghost use Rattle.rules.specs.Bytes.{max_layers};

@@ -1,5 +1,7 @@
 // The text of a report over a block (02, wish 2), written from what the report tells: its bytes are those of the definition, and the bytes after it keep
 // their values.
+#![tactic(auto)]
+
 ghost use Rattle.std.specs.Prelude.{◌≡◌, ◌++◌, ◌+◌, ◌*◌, ◌≤◌, length, drop};
 ghost use Rattle.io.specs.Counts.{IsPrefixLen};
 ghost use Rattle.rules.specs.Block.{count_line, met_line, met_from, totals_text, answer_text};
@@ -62,7 +64,7 @@ fn put_totals(report: Report, out: &mut [u8]) -> usize
     put_met(b"length ", &lengths, out, at)
 }
 
-// Writes the report at the front of `out`: the totals, or the line of 13. Answers its length. It also promises `Counts`, so that a caller may lend
+// Writes the report at the front of `out`: the totals, or the line of 13. Answers its length. It also promises `IsPrefixLen`, so that a caller may lend
 // `&out[..n]` with no proof of its own.
 pub fn write_report(report: Report, out: &mut [u8]) -> usize
     requires { max_report ≤ length out.old }

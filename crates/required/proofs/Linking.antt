@@ -33,7 +33,7 @@ links-start {n} A k e l = record {
 
 -- The places that a turn at node j reads and writes are in the tables.
 pub record LinkPlaces (stage first next : List ℕ) (j : ℕ) : Type 0 where
-  pub node_in_turn : j < max_nodes + 1
+  pub node_in : j < max_nodes + 1
   pub stage_in : get_or stage j 0 < max_stages
   pub stage-long : length stage ≡ max_nodes + 1
   pub first-long : length first ≡ max_stages
@@ -43,12 +43,12 @@ module _ {n : Net} (A : Accepted n) {stage below first next : List ℕ} {j : ℕ
     (h : 0 < j) where
   -- The stage of edge j is a stage of the net,
   stage-here : get_or stage j 0 < stages n
-  stage-here = omega (arith, S.Stage-is j h L.most, stage-below A j h L.most)
+  stage-here = omega (arith, S.stage_is j h L.most, stage-below A j h L.most)
 
   -- so it has its place among the first links.
   pub link-places : LinkPlaces stage first next j
   link-places = record {
-    node_in_turn = omega (arith, L.most, A.few-nodes);
+    node_in = omega (arith, L.most, A.few-nodes);
     stage_in = omega (arith, stage-here, A.few-stages);
     stage-long = S.stage-long;
     first-long = L.first-long;
@@ -74,12 +74,12 @@ module _ {n : Net} (A : Accepted n) {stage below first next : List ℕ} {j : ℕ
     most = omega (arith, L.most);
     first-long = length-set first (get_or stage j 0) j ∙ L.first-long;
     next-long = length-set next j (get_or first (get_or stage j 0) 0) ∙ L.next-long;
-    links = link-take L.links h (omega (arith, link-places.node_in_turn)) stage-here (omega (arith, link-places.first-long, link-places.stage_in))
-        (omega (arith, link-places.next-long, link-places.node_in_turn)) here (λ t d. sym d.edge.stage ∙ here.edge.stage);
+    links = link-take L.links h (omega (arith, link-places.node_in)) stage-here (omega (arith, link-places.first-long, link-places.stage_in))
+        (omega (arith, link-places.next-long, link-places.node_in)) here (λ t d. sym d.edge.stage ∙ here.edge.stage);
   }
     where
       here : TerminalOf n (get_or stage j 0) j
-      here = record { edge = record { after = h; inside = L.most; stage = sym (S.Stage-is j h L.most) }; ends = q }
+      here = record { edge = record { after = h; inside = L.most; stage = sym (S.stage_is j h L.most) }; ends = q }
 
 -- At the driver all terminals are linked.
 pub links_end : {n : Net} {first next : List ℕ} {j : ℕ} → TerminalsAfter n first next j → j ≤ 0 → TerminalsLinked n first next

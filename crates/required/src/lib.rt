@@ -1,5 +1,7 @@
 // The required time of a plan (01, Timing rule). A stage's required time rests on its terminals, and a buffer's on the stage it drives. The terminals of each
 // stage are linked once for each plan judged, so that a stage's loop meets its own terminals only.
+#![tactic(auto)]
+
 ghost use Rattle.std.specs.Prelude.{◌≡◌, true, List, ℕ, ◌+◌, ◌≤◌, ◌<◌, ◌^◌, length, replicate, pos, ◌-ℤ◌};
 ghost use Rattle.std.specs.Int.{w64};
 ghost use Rattle.std.proofs.Common.{SFits};

@@ -1,5 +1,7 @@
 // Costs rounded to a grain (01, Rounded cost and the grain): a plan's rounded cost, and what each stage on each layer costs above the least of its layers.
 // Taking that least off beforehand leaves fewer budgets for the search.
+#![tactic(auto)]
+
 ghost use Rattle.std.specs.Prelude.{◌≡◌, ℕ, ◌-◌, ◌/◌, ◌^◌, min};
 ghost use Rattle.laws.specs.Basic.{from, lowest};
 ghost use Rattle.oracle.specs.Stages.{StageTree};

@@ -1,5 +1,7 @@
 // One round of the search at a grain (01, Planning): the rows, V(k) read off the first, and the plan read off them all; and what is found before the first
 // round, once for each call.
+#![tactic(auto)]
+
 ghost use Rattle.std.specs.Prelude.{◌≡◌, ℕ, ◌^◌, ◌≤◌, length};
 ghost use Rattle.oracle.specs.Stages.{StageTree};
 ghost use Rattle.rounds.specs.Problem.{Numbers};

@@ -1,4 +1,7 @@
 // Planning by some rounds a net that was read (02, wish 7): the rounds over its tree of stages, and what the cheapest plan that they found costs.
+
+#![tactic(auto)]
+
 ghost use Rattle.std.specs.Prelude.{◌≡◌, List, ℕ, length};
 ghost use Rattle.rules.specs.Reading.{accept, read};
 ghost use Rattle.rules.specs.Rounds.{last_run};

@@ -1,7 +1,6 @@
 -- What the rounds down the k's ask and give. `columns` is how many columns the table has, `last` the k of the last round that is due.
-use Rattle.std.specs.Prelude.{◌≡◌, List, ℕ, suc, ◌+◌, ◌-◌, ◌*◌, ◌^◌, ◌≤◌, ◌<◌, ltb, length, ℤ}
+use Rattle.std.specs.Prelude.{◌≡◌, List, ℕ, suc, ◌+◌, ◌-◌, ◌*◌, ◌^◌, ◌≤◌, ◌<◌, ltb, length, ℤ, if◌then◌else◌}
 use Rattle.std.proofs.Math.Option.{some}
-use Rattle.laws.specs.Basic.{if◌then◌else◌}
 use Rattle.rules.specs.Grain.{max_exponent}
 use Rattle.rules.specs.Rounds.{max_rounds, due_rounds}
 use Rattle.oracle.specs.Stages.{StageTree}

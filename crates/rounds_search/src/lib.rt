@@ -1,4 +1,6 @@
 // Some rounds of the search on a tree of stages (02, wish 7): at k = 28, 27 and down, as far as the columns reach, and the cheapest plan that they find.
+#![tactic(auto)]
+
 ghost use Rattle.std.specs.Prelude.{◌≡◌, ℕ, suc, ◌+◌, ◌/◌, ◌^◌, ◌≤◌, length};
 ghost use Rattle.std.proofs.Math.Option.{some};
 ghost use Rattle.rules.specs.Grain.{max_exponent};

@@ -1,5 +1,7 @@
 // The rows of the work table for one grain (source 001, section 4.2), each with the entries of its band only (crate bands). Behind the rows of the stages
 // stand two rows for merging.
+#![tactic(auto)]
+
 ghost use Rattle.std.specs.Prelude.{◌≤◌, length};
 ghost use Rattle.rows.specs.Clauses.{LayerIn, Layered, StageRowIn, StageRow, RowsIn, AllRows};
 

@@ -1,6 +1,6 @@
 -- 02, wish 2, 'A report over a whole block': the nets of a block, the totals over them, and the report's text.
-use Rattle.std.specs.Prelude.{◌≡◌, Bool, true, false, List, [], ◌∷◌, ◌++◌, map, ℕ, zero, suc, ◌+◌, ◌*◌, ◌≤◌, leb, eqb, length, take, drop, replicate}
-use Rattle.laws.specs.Basic.{if◌then◌else◌, from, sum, keep}
+use Rattle.std.specs.Prelude.{◌≡◌, Bool, true, false, List, [], ◌∷◌, ◌++◌, map, ℕ, zero, suc, ◌+◌, ◌*◌, ◌≤◌, leb, eqb, length, take, drop, replicate, if◌then◌else◌}
+use Rattle.laws.specs.Basic.{from, sum, keep}
 use Rattle.rules.specs.declared.Report.{Report}
 use Rattle.rules.specs.Tree.{Net, at, edges, stage_of, on, is_plan}
 use Rattle.rules.specs.Bytes.{Field, max_layers, next}

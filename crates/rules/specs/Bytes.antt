@@ -1,6 +1,6 @@
 -- 01, 'Net bytes': numbers and times in bytes, fields, the ranges, and the records that the payloads hold.
-use Rattle.std.specs.Prelude.{Bool, true, false, ◌&&◌, ◌||◌, List, map, ℕ, zero, suc, ◌+◌, ◌*◌, ◌/◌, ◌-◌, ◌^◌, ◌%◌, leb, ltb, eqb, length, get_or, ℤ, pos, negsuc}
-use Rattle.laws.specs.Basic.{if◌then◌else◌, from, all, within, within_z}
+use Rattle.std.specs.Prelude.{Bool, true, ◌&&◌, ◌||◌, List, map, ℕ, zero, suc, ◌+◌, ◌*◌, ◌/◌, ◌-◌, ◌^◌, ◌%◌, leb, ltb, eqb, get_or, ℤ, pos, negsuc, if◌then◌else◌}
+use Rattle.laws.specs.Basic.{from, all, within, within_z}
 use Rattle.rules.specs.declared.Kind.{Kind}
 use Rattle.rules.specs.declared.Kind.TheVariants.{Steiner, Buffer, Sink}
 use Rattle.rules.specs.Tree.{Layer, Driver, Node}

@@ -1,7 +1,7 @@
 -- 02, wish 1, 'A wall chart of table lengths': the entries that always serve, for s from 1 to 64 and shares 1/1, 1/2, to 1/10, and the chart's text.
-use Rattle.std.specs.Prelude.{◌≡◌, refl, ◌&&◌, List, [], ◌∷◌, ◌++◌, map, ℕ, ◌+◌, ◌*◌, ◌-◌, ◌≤◌, eqb}
+use Rattle.std.specs.Prelude.{◌≡◌, refl, ◌&&◌, List, [], ◌∷◌, ◌++◌, map, ℕ, ◌+◌, ◌*◌, ◌-◌, ◌≤◌, eqb, if◌then◌else◌}
 use Prim.Native.Char.{code}
-use Rattle.laws.specs.Basic.{if◌then◌else◌, within, from}
+use Rattle.laws.specs.Basic.{within, from}
 use Rattle.rules.specs.Bytes.{max_stages}
 use Rattle.rules.specs.Planning.{enough_columns}
 use Rattle.rules.specs.Text.{ascii, space, line_feed, decimal_from, decimal, between}

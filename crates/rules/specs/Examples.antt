@@ -1,6 +1,6 @@
 -- 01, 'Nets to try', the rows marked †, with their floors (02, wish 6), lengths (02, wish 3), vias (02, wish 5), rounds (02, wish 7), blocks (02, wish 2)
 -- and runs of calls on a desk (02, wish 8) to try: lists of inputs and results, and one proof that settles them against the rules.
-use Rattle.std.specs.Prelude.{Bool, true, false, ◌&&◌, List, [], ◌∷◌, ◌++◌, map, ℕ, zero, suc, ◌+◌, ◌*◌, ◌/◌, ◌^◌, ◌%◌, T, eqb, length, drop, replicate, ℤ, pos, negsuc}
+use Rattle.std.specs.Prelude.{Bool, true, false, ◌&&◌, List, [], ◌∷◌, ◌++◌, map, ℕ, zero, suc, ◌+◌, ◌*◌, ◌/◌, ◌^◌, ◌%◌, T, eqb, length, drop, replicate, ℤ, pos, negsuc, if◌then◌else◌}
 use Rattle.std.proofs.Math.Option.{none}
 use Rattle.std.specs.Int.Signed.{le_z}
 use Rattle.laws.specs.Basic
@@ -162,7 +162,7 @@ answers_rounds a r c s f m buffer table =
 
 -- A table that was refused with r.
 abbrev pub refused_table : ℕ → ℕ → List ℤ
-refused_table r m = Basic.if◌then◌else◌ (eqb r 12) (replicate m (pos 0)) (used_table m)
+refused_table r m = (if eqb r 12 then replicate m (pos 0) else used_table m)
 
 -- The numbers of a reply: of an opening the refusal and three counts, of a change the refusal, of a reading the refusal, cost and slack.
 abbrev pub reply_numbers : Reply → List ℤ

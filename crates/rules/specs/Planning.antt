@@ -1,7 +1,7 @@
 -- 01, 'Planning': what planning answers, and what it leaves in the plan buffer and in the table, for every input.
-use Rattle.std.specs.Prelude.{◌≡◌, Bool, true, ◌&&◌, List, ◌++◌, ℕ, ◌+◌, ◌*◌, ◌/◌, ◌-◌, ◌≤◌, ◌<◌, leb, ltb, eqb, length, take, drop, replicate, ℤ, pos}
+use Rattle.std.specs.Prelude.{◌≡◌, true, ◌&&◌, List, ◌++◌, ℕ, ◌+◌, ◌*◌, ◌/◌, ◌-◌, ◌≤◌, ◌<◌, leb, ltb, eqb, length, take, drop, replicate, ℤ, pos, if◌then◌else◌}
 use Rattle.std.proofs.Math.Option.{Option, none, some}
-use Rattle.laws.specs.Basic.{if◌then◌else◌, within}
+use Rattle.laws.specs.Basic.{within}
 use Rattle.rules.specs.declared.Planned.{Planned}
 use Rattle.rules.specs.Tree.{Net, stages, is_plan}
 use Rattle.rules.specs.Timing.{slack, meets, cost}

@@ -1,8 +1,8 @@
 -- 02, wish 7, 'Best plan after some rounds': the k's that are run, the plan of each, the cheapest of them, the floor, and what the call answers and leaves, for
 -- every input. Coarse grains first, each round half as coarse as the one before: source 001, section 6.1.
-use Rattle.std.specs.Prelude.{◌≡◌, true, List, ◌++◌, map, ℕ, ◌+◌, ◌*◌, ◌-◌, ◌^◌, ◌≤◌, ◌<◌, leb, ltb, eqb, length, take, drop, ℤ, pos}
+use Rattle.std.specs.Prelude.{◌≡◌, true, List, ◌++◌, map, ℕ, ◌+◌, ◌*◌, ◌-◌, ◌^◌, ◌≤◌, ◌<◌, leb, ltb, eqb, length, take, drop, ℤ, pos, if◌then◌else◌}
 use Rattle.std.proofs.Math.Option.{Option}
-use Rattle.laws.specs.Basic.{if◌then◌else◌, from, leading, somes, within, first_lowest, highest}
+use Rattle.laws.specs.Basic.{from, leading, somes, within, first_lowest, highest}
 use Rattle.rules.specs.declared.RoundsPlanned.{RoundsPlanned}
 use Rattle.rules.specs.Tree.{Net, stages, is_plan}
 use Rattle.rules.specs.Timing.{slack, meets, cost}

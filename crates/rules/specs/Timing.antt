@@ -3,7 +3,7 @@
 -- the two units, so nothing is halved. A via is a resistance that the current to all load behind it passes, as Elmore delay counts every resistance (source
 -- 001, section 2). That pins are reached by vias, and that vias have a delay: source 003, sections 7.3.3 and 7.4.1; how much is 02's. It has no
 -- capacitance, so no load rests on it.
-use Rattle.std.specs.Prelude.{Bool, true, false, List, map, ℕ, zero, suc, ◌+◌, ◌*◌, length, get_or, ℤ, pos, ◌-ℤ◌}
+use Rattle.std.specs.Prelude.{Bool, List, map, ℕ, zero, suc, ◌+◌, ◌*◌, length, get_or, ℤ, pos, ◌-ℤ◌}
 use Rattle.std.specs.Int.Signed.{le_z}
 use Rattle.laws.specs.Basic.{from, sum, least_of}
 use Rattle.rules.specs.declared.Kind.{Kind}

@@ -1,4 +1,5 @@
 // The values and limits of document 01 that code and definitions share. The rules themselves stand in specs/.
+#![tactic(auto)]
 
 // The ranges and limits of 01, Net bytes (the length's is of 02, wish 3, that of via resistance of 02, wish 5), as code compares with them; specs/Bytes.antt
 // has the same numbers for the definitions.
@@ -55,7 +56,7 @@ pub const NET_NUMBERS: usize = 13;
 pub const MAX_DESK_NET: usize = 4_096;
 
 // The kind of a node after the driver, with the numbers of its own (01, Net bytes, tags 3 to 5).
-#[derive(Drop)]
+#[derive(Clone, Copy)]
 pub enum Kind {
     Steiner,
     Buffer {
@@ -71,7 +72,7 @@ pub enum Kind {
 
 // What checking answers (01, Reading): a refusal number, 0 if accepted, and three counts.
 #[repr(C)]
-#[derive(Drop)]
+#[derive(Clone, Copy)]
 pub struct Checked {
     pub refusal: u8,
     pub nodes: u64,
@@ -81,7 +82,7 @@ pub struct Checked {
 
 // What judging answers (01, Judging): a refusal number, 0 if accepted, and the plan's cost and slack.
 #[repr(C)]
-#[derive(Drop)]
+#[derive(Clone, Copy)]
 pub struct Judged {
     pub refusal: u8,
     pub cost: u64,
@@ -90,7 +91,7 @@ pub struct Judged {
 
 // What planning answers (01, Planning): a refusal number, 0 if accepted, the plan's cost and slack, k of the grain 2^k, and the floor
 // 2^k × V(k) (02, wish 6).
-#[derive(Drop)]
+#[derive(Clone, Copy)]
 pub struct Planned {
     pub refusal: u8,
     pub cost: u64,
@@ -101,7 +102,7 @@ pub struct Planned {
 
 // What planning by some rounds answers (02, wish 7): a refusal number, 0 if accepted, the cost and slack of the cheapest plan seen, the floor, and the rounds
 // run.
-#[derive(Drop)]
+#[derive(Clone, Copy)]
 pub struct RoundsPlanned {
     pub refusal: u8,
     pub cost: u64,
@@ -113,7 +114,7 @@ pub struct RoundsPlanned {
 // What a report over a block answers (02, wish 2): 13 or 0; how many nets there are, how many were planned, and how many were refused with each number;
 // the cost of the planned nets, and their total edge length on each layer.
 #[repr(C)]
-#[derive(Drop)]
+#[derive(Clone, Copy)]
 pub struct Report {
     pub refusal: u8,
     pub nets: u64,

@@ -1,4 +1,6 @@
 // The search over grains on a tree of stages (01, Planning): whether some plan meets timing, the grain by a descent in k, the plan that is chosen.
+#![tactic(auto)]
+
 ghost use Rattle.std.specs.Prelude.{◌≡◌, ◌++◌, ◌+◌, ◌-◌, ◌*◌, ◌/◌, ◌≤◌, leb, length, drop, replicate, pos};
 ghost use Rattle.oracle.specs.Stages.{StageTree};
 ghost use Rattle.oracle.specs.Value.{MeetingPlan};
@@ -25,7 +27,7 @@ fn qualifies(p: u64, q: u64, stages: usize, g: u64, v: usize) -> bool
 }
 
 // What planning a tree gives: no plan meets timing, too few columns, or the grain 2^k = g and V(k).
-#[derive(Drop)]
+#[derive(Clone, Copy)]
 pub enum Outcome {
     Late,
     Short,

@@ -1,11 +1,11 @@
 -- The pass over the nodes: before node j the tables hold what the buffers and sinks before it give. No two buffers drive one stage, so what a buffer gives
 -- stays; a sink's limit is joined to those of its stage.
-use Rattle.std.specs.Prelude.{◌≡◌, Bool, true, false, ◌⊎◌, List, ℕ, ◌+◌, ◌*◌, ◌-◌, ◌≤◌, ◌<◌, length, get_or, replicate, set, ℤ, ◌-ℤ◌}
+use Rattle.std.specs.Prelude.{◌≡◌, Bool, true, false, ◌⊎◌, List, ℕ, ◌+◌, ◌*◌, ◌-◌, ◌≤◌, ◌<◌, length, get_or, replicate, set, ℤ, ◌-ℤ◌, if◌then◌else◌}
 use Rattle.std.proofs.Math.Path.{refl, ap}
 use Rattle.std.proofs.Common.{sym, ◌∙◌, inl, inr, arith, length-set, get_or-set_same, get_or-set_other}
 use Rattle.std.proofs.lemmas.List.{get_or-replicate, length-replicate}
 use Rattle.std.proofs.Math.IntN.{pos}
-use Rattle.laws.specs.Basic.{if◌then◌else◌, min_z}
+use Rattle.laws.specs.Basic.{min_z}
 use Rattle.laws.specs.Booleans.{same_or}
 use Rattle.rules.specs.declared.Kind.{Kind}
 use Rattle.rules.specs.declared.Kind.TheVariants.{Steiner, Buffer, Sink}
@@ -151,7 +151,7 @@ module _ {n : Net} (A : Accepted n) {limit : List ℤ} {j : ℕ} (L : SinksNoted
 
 -- What a turn at node j may rely on, and what it leaves.
 pub record NumberTurn (n : Net) (layers : ℕ) (delay : List ℕ) (j above own : ℕ) (driver wire : List ℕ) (limit : List ℤ) : Type 0 where
-  pub node_in_turn : j < max_nodes + 1
+  pub node_in : j < max_nodes + 1
   pub note_in : NoteIn (at n j).kind layers delay j above own driver wire limit
   pub onward : {driver' wire' : List ℕ} {limit' : List ℤ} → Noted (at n j).kind layers delay j above own driver wire limit driver' wire' limit'
       → Numbering n driver' wire' limit' (j + 1)
@@ -175,8 +175,8 @@ module _ {n : Net} (A : Accepted n) {delay : List ℕ} {layers : ℕ} (D : Layer
   few : layers ≤ max_layers
   few = omega (arith, A.few-layers)
 
-  node_in_turn : j < max_nodes + 1
-  node_in_turn = omega (arith, A.few-nodes)
+  node_in : j < max_nodes + 1
+  node_in = omega (arith, A.few-nodes)
 
   noted : (k : Kind) → (at n j).kind ≡ k → {driver' wire' : List ℕ} {limit' : List ℤ}
       → Noted k layers delay j (stage_of n j) (stage_below n j) driver wire limit driver' wire' limit' → Numbering n driver' wire' limit' (j + 1)
@@ -201,11 +201,11 @@ module _ {n : Net} (A : Accepted n) {delay : List ℕ} {layers : ℕ} (D : Layer
 
   pub number-turn : {above own : ℕ} → above ≡ stage_of n j → own ≡ stage_below n j → NumberTurn n layers delay j above own driver wire limit
   number-turn ea eo = rw (ea, eo) (record {
-    node_in_turn = node_in_turn;
+    node_in = node_in;
     note_in = record {
       few = few;
       delays = record {
-        row = record { row_in = node_in_turn; long = D.long };
+        row = record { row_in = node_in; long = D.long };
         each = λ l h. omega (arith, D.each j l a b h, delay-below A l j a b);
       };
       driver-long = N.driven.driver-long;

@@ -1,5 +1,7 @@
 // The numbers of a net's tree of stages, laid out in the slices that the search reads (01, The tree and Timing rule; source 001, section 2): for each stage
 // the stage that drives it, and on each layer the delay to it and the least limit that its sinks set. One pass over the nodes.
+#![tactic(auto)]
+
 ghost use Rattle.std.specs.Prelude.{◌≡◌, List, ℕ, ◌*◌, ◌≤◌, length, replicate, pos, ◌-ℤ◌};
 ghost use Rattle.laws.specs.Basic.{min_z};
 ghost use Rattle.rules.specs.Bytes.{max_layers, max_stages};

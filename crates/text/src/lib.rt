@@ -1,5 +1,7 @@
 // The writer of text: words, numbers and times put into a buffer one after the other. Each function puts its bytes at a place, leaves all others as they
 // were, and answers where they end (`Placed`); the bytes are those of rules/specs/Text.antt.
+#![tactic(auto)]
+
 ghost use Rattle.std.specs.Prelude.{◌≡◌, ◌+◌, ◌≤◌, length, nat_abs};
 ghost use Rattle.rules.specs.Text.{decimal, number_field, decimal_z};
 ghost use Rattle.text.specs.Placing.{Placed};

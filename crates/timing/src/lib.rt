@@ -1,4 +1,6 @@
 // Timing and cost of plans (01, Timing rule): the cost and slack that a plan of a net has.
+#![tactic(auto)]
+
 ghost use Rattle.std.specs.Prelude.{◌≡◌, List, ℕ, pos, ◌-ℤ◌};
 ghost use Rattle.std.specs.Int.{w64};
 ghost use Rattle.std.proofs.Common.{SFits};

@@ -1,7 +1,6 @@
 -- What drives the wire below a node: at a root its own gate, with gate resistance and intrinsic delay, at any other node the wire above it.
-use Rattle.std.specs.Prelude.{◌≡◌, refl, Bool, true, false, List, ℕ, zero, suc, ◌≤◌}
+use Rattle.std.specs.Prelude.{◌≡◌, refl, Bool, true, false, List, ℕ, zero, suc, ◌≤◌, if◌then◌else◌}
 use Rattle.std.proofs.Common.{ap, ◌∙◌, arith}
-use Rattle.laws.specs.Basic.{if◌then◌else◌}
 use Rattle.rules.specs.declared.Kind.{Kind}
 use Rattle.rules.specs.declared.Kind.TheVariants.{Steiner, Buffer, Sink}
 use Rattle.rules.specs.Bytes.{buffer_tag}

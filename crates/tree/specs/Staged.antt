@@ -1,12 +1,12 @@
 -- The stage of each edge, by one pass in node order: an edge belongs to the stage that the wire below its upper end belongs to; below a buffer begins the
 -- stage that it drives, below any other node goes on the stage of the edge above it (01, The tree).
-use Rattle.std.specs.Prelude.{◌≡◌, Bool, ◌⊎◌, List, length, get_or, set}
+use Rattle.std.specs.Prelude.{◌≡◌, Bool, ◌⊎◌, List, length, get_or, set, if◌then◌else◌}
 use Rattle.std.proofs.Math.Path.{refl, ap}
 use Rattle.std.proofs.Common.{sym, ◌∙◌, inl, inr, arith, length-set, get_or-set_same, get_or-set_other}
 use Rattle.std.proofs.Math.Bool.{true, false}
 use Rattle.rules.specs.Bytes.{max_nodes}
 use Prim.Native.Nat.{ℕ, zero, suc, ◌+◌, ◌-◌, ◌≤◌, ◌<◌}
-use Rattle.laws.specs.Basic.{if◌then◌else◌, bit, from, keep}
+use Rattle.laws.specs.Basic.{bit, from, keep}
 use Rattle.laws.specs.Booleans.{same_or}
 use Rattle.laws.specs.Lists.{keep-more, from_more}
 use Rattle.rules.specs.Tree.{Net, at, is_buffer, stages, drives, root_from, stage_of}
@@ -30,6 +30,7 @@ module _ {n : Net} (A : Accepted n) where
 
   pub below-is : (j : ℕ) → 1 ≤ j → stage_below n j ≡ (if is_buffer (at n j).kind then drives n j else stage_of n j)
   unfolding stage_of stage_below
+  below-is zero h = elim h [ ]
   below-is (suc j) h = go (is_buffer (at n (suc j)).kind) refl
     where
       go : (b : Bool) → is_buffer (at n (suc j)).kind ≡ b
@@ -91,7 +92,7 @@ passing_end P h = record {
 
 -- what a turn at node j may rely on, and what it leaves
 pub record StageTurn (n : Net) (stage below : List ℕ) (j count : ℕ) : Type 0 where
-  pub node_in_turn : j < max_nodes + 1
+  pub node_in : j < max_nodes + 1
   pub parent_in : (at n j).parent < max_nodes + 1
   pub count_in : count + bit (is_buffer (at n j).kind) ≤ 255
   pub onward : Passing n (set stage j (get_or below (at n j).parent 0))
@@ -103,7 +104,7 @@ stage-turn {n} A {stage} {below} {j} {count} P h =
     let l = A.parent-lower j P.some in
     let f = A.few-nodes in
     record {
-      node_in_turn = omega arith;
+      node_in = omega arith;
       parent_in = omega arith;
       count_in = omega (arith, count-more, drives-below n j h, A.few-stages);
       onward = record {

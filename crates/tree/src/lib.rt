@@ -1,7 +1,8 @@
 // The tree of a net that was read (01, The tree): what drives the wire below each node, and the stage of each edge.
-ghost use Rattle.std.specs.Prelude.{◌≡◌, ℕ, ◌+◌, ◌≤◌, length};
+#![tactic(auto)]
+
+ghost use Rattle.std.specs.Prelude.{◌≡◌, ℕ, ◌+◌, ◌≤◌, length, if◌then◌else◌};
 ghost use Rattle.rules.specs.Bytes.{max_nodes};
-ghost use Rattle.laws.specs.Basic.{if◌then◌else◌};
 ghost use Rattle.rules.specs.Tree.{is_buffer};
 ghost use Rattle.words.specs.Words.{net_in};
 ghost use Rattle.words.specs.Held.{Held};
@@ -10,7 +11,7 @@ ghost use Rattle.tree.specs.Staged.{Staged};
 
 use reader::buffer_bit;
 use rules::Kind;
-use words::{node_at, node_in_turn};
+use words::{node_at, node_in};
 
 // A layer number as an index.
 pub fn wide(layer: u8) -> usize
@@ -20,7 +21,7 @@ pub fn wide(layer: u8) -> usize
 }
 
 // What drives the wire below a node: the gate of a root, or the wire above.
-#[derive(Drop)]
+#[derive(Clone, Copy)]
 pub enum Gate {
     Root { gate_res: u64, intrinsic: u64 },
     Wire,
@@ -31,7 +32,7 @@ pub fn gate_at(words: &[u32], i: usize) -> Gate
     requires { (nodes : ℕ) × (layers : ℕ) × Held words.now nodes layers × (i ≤ nodes) }
     ensures { result ≡ gate_of (net_in words.now) i }
 {
-    let node = node_in_turn(words, i);
+    let node = node_in(words, i);
     let kind = node.kind;
     match kind {
         Kind::Steiner => Gate::Wire,

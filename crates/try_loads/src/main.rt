@@ -1,10 +1,14 @@
 // Prints what the walk that sums the loads gives for the net on standard input (02, wish 4): for each stage a line with its number of edges and the load at its
 // root on each layer; or `refused` and the number of the first fault. The gate compares it with the second implementation of `tests/`.
+#![tactic(auto)]
+
 ghost use Rattle.std.specs.Prelude.{◌≤◌};
 ghost use Rattle.rules.specs.Bytes.{max_layers, max_nodes};
 
 use loads::{NODE_ROWS, loads};
 use reader::{Net, net_refusal, read};
+use std::io;
+use streams::read_full;
 use tree::stages;
 use words::WORDS;
 
@@ -17,60 +21,64 @@ fn at(numbers: &[usize], i: usize) -> usize {
 }
 
 // Prints a space and an entry of the table of loads.
-fn print_load(load: &[u32], i: usize) {
-    io::write_all(1, b" ");
+fn print_load(rt: &impl Print, load: &[u32], i: usize) -> io::Result<()> {
+    print!(rt; " ")?;
     if i < load.len() {
-        io::print_decimal(1, load[i] as u64);
+        print!(rt; "{}", load[i])?;
     }
+    Ok(())
 }
 
 // Prints the line of stage t, whose root is node i.
-fn print_stage(t: usize, edges: usize, load: &[u32], i: usize, layers: usize)
+fn print_stage(
+    rt: &impl Print,
+    t: usize,
+    edges: usize,
+    load: &[u32],
+    i: usize,
+    layers: usize,
+) -> io::Result<()>
     requires { (i ≤ max_nodes) × (layers ≤ max_layers) }
 {
-    io::write_all(1, b"stage ");
-    io::print_decimal(1, t as u64);
-    io::write_all(1, b" edges ");
-    io::print_decimal(1, edges as u64);
-    io::write_all(1, b" loads");
+    print!(rt; "stage {t} edges {edges} loads")?;
     let mut l: usize = 0;
     while l < layers {
-        print_load(load, i * layers + l);
+        print_load(rt, load, i * layers + l)?;
         l += 1;
     }
-    io::write_all(1, b"\n");
+    println!(rt; "")
 }
 
 // Prints the line of each stage. Their roots, in node order, are the driver and the nodes below which another stage begins than that of the edge above.
 fn print_stages(
+    rt: &impl Print,
     nodes: usize,
     layers: usize,
     stage: &[usize],
     below: &[usize],
     edges: &[usize],
     load: &[u32],
-)
+) -> io::Result<()>
     requires { (nodes ≤ max_nodes) × (layers ≤ max_layers) }
 {
     let mut i: usize = 0;
     while i <= nodes {
         let t = at(below, i);
         if i == 0 || t != at(stage, i) {
-            print_stage(t, at(edges, t), load, i, layers);
+            print_stage(rt, t, at(edges, t), load, i, layers)?;
         }
         i += 1;
     }
+    Ok(())
 }
 
 // Prints the refusal of a net that cannot be read.
-fn print_refusal(r: u8) {
-    io::write_all(1, b"refused ");
-    io::print_decimal(1, r as u64);
-    io::write_all(1, b"\n");
+fn print_refusal(rt: &impl Print, r: u8) -> io::Result<()> {
+    println!(rt; "refused {r}")
 }
 
 // Reads the net, walks over it once on all layers, and prints what the walk gives.
-fn print_walk(net: &[u8]) {
+fn print_walk(rt: &impl Print, net: &[u8]) -> io::Result<()> {
     let mut words = [0u32; WORDS];
     let found = read(net, true, &mut words);
     let Net::Read {
@@ -79,8 +87,7 @@ fn print_walk(net: &[u8]) {
         layers,
     } = found
     else {
-        print_refusal(net_refusal(found));
-        return;
+        return print_refusal(rt, net_refusal(found));
     };
     let mut stage = [0usize; NODE_ROWS];
     let mut below = [0usize; NODE_ROWS];
@@ -88,11 +95,11 @@ fn print_walk(net: &[u8]) {
     let first = [0u8; rules::MAX_STAGES];
     let mut load = [0u32; NODE_ROWS * rules::MAX_LAYERS];
     let edges = loads(&words, nodes, &below, &first, layers, &mut load);
-    print_stages(nodes, layers, &stage, &below, &edges, &load);
+    print_stages(rt, nodes, layers, &stage, &below, &edges, &load)
 }
 
-fn main() {
-    let mut net = io::large_buffer();
-    let size = io::read_full(0, &mut net);
-    print_walk(&net[..size]);
+fn main(rt: HostRuntime) -> io::Result<()> {
+    let mut net = [0u8; 65536];
+    let size = read_full(&mut rt.reader(), &mut net)?;
+    print_walk(&rt, &net[..size])
 }

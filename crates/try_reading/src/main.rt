@@ -1,9 +1,12 @@
 // Reads nets at and just beyond each limit of document 01 (Net bytes, Reading, Nets to try; lengths by 02, wish 3, vias by wish 5) and prints what checking
 // answers, a line for each.
 // Nets are made in a local buffer from numbers, most significant byte first; each place below is that of a number in net B.
+#![tactic(auto)]
+
 ghost use Rattle.std.specs.Prelude.{◌≤◌};
 
 use rules::Checked;
+use std::io;
 use std::num::wrapping_sub_u64;
 
 // How many bytes net B has.
@@ -65,21 +68,17 @@ fn check_first(net: &[u8], size: usize) -> Checked {
 }
 
 // Prints the name of a net, and what checking answers for its first `size` bytes.
-fn try_net(name: &[u8], net: &[u8], size: usize) {
+fn try_net(rt: &impl Print, name: &[u8], net: &[u8], size: usize) -> io::Result<()> {
     let answer = check_first(net, size);
-    io::write_all(1, name);
+    rt.write_all(name)?;
     if answer.refusal == 0 {
-        io::write_all(1, b": nodes ");
-        io::print_decimal(1, answer.nodes);
-        io::write_all(1, b" stages ");
-        io::print_decimal(1, answer.stages);
-        io::write_all(1, b" layers ");
-        io::print_decimal(1, answer.layers);
+        println!(rt;
+            ": nodes {} stages {} layers {}",
+            answer.nodes, answer.stages, answer.layers
+        )
     } else {
-        io::write_all(1, b": refused ");
-        io::print_decimal(1, answer.refusal as u64);
+        println!(rt; ": refused {}", answer.refusal)
     }
-    io::write_all(1, b"\n");
 }
 
 // The two layers of nets A and B.
@@ -132,12 +131,12 @@ fn put_buffer(net: &mut [u8], at: usize) -> usize {
 }
 
 // Net A of document 01.
-fn try_net_a() {
+fn try_net_a(rt: &impl Print) -> io::Result<()> {
     let mut net = [0u8; 128];
     let at = put_layers(&mut net);
     let at = put_driver(&mut net, at);
     let size = put_sink(&mut net, at, 0, 10, 20, 830);
-    try_net(b"net A", &net, size);
+    try_net(rt, b"net A", &net, size)
 }
 
 // Net B of document 01, but for its layers.
@@ -154,29 +153,36 @@ fn put_net_b(net: &mut [u8]) -> usize {
 }
 
 // The first `size` bytes of net B, and zeros after its end, with the number x of `width` bytes at `place`.
-fn try_net_b(name: &[u8], place: usize, width: u64, x: u64, size: usize) {
+fn try_net_b(
+    rt: &impl Print,
+    name: &[u8],
+    place: usize,
+    width: u64,
+    x: u64,
+    size: usize,
+) -> io::Result<()> {
     let mut net = [0u8; 128];
     put_net_b(&mut net);
     put(&mut net, place, width, x);
-    try_net(name, &net, size);
+    try_net(rt, name, &net, size)
 }
 
 // Net B with another number.
-fn with(name: &[u8], place: usize, width: u64, x: u64) {
-    try_net_b(name, place, width, x, NET_B);
+fn with(rt: &impl Print, name: &[u8], place: usize, width: u64, x: u64) -> io::Result<()> {
+    try_net_b(rt, name, place, width, x, NET_B)
 }
 
 // Net B of another length.
-fn long(name: &[u8], size: usize) {
-    try_net_b(name, 0, 0, 0, size);
+fn long(rt: &impl Print, name: &[u8], size: usize) -> io::Result<()> {
+    try_net_b(rt, name, 0, 0, 0, size)
 }
 
 // Net B in the second edition, with these via resistances.
-fn try_vias(name: &[u8], via: u64, via2: u64) {
+fn try_vias(rt: &impl Print, name: &[u8], via: u64, via2: u64) -> io::Result<()> {
     let mut net = [0u8; 128];
     let at = put_via_layers(&mut net, via, via2);
     let size = put_rest_of_b(&mut net, at);
-    try_net(name, &net, size);
+    try_net(rt, name, &net, size)
 }
 
 // A layers field with this tag and so many numbers of 2 bytes, all 1, and a driver with all numbers 0.
@@ -211,13 +217,13 @@ fn put_node(net: &mut [u8], at: usize, tag: u64, layers: u64, parent: u64) -> us
 }
 
 // A net of so many layers, whose layers field has this tag and so many numbers, with one sink.
-fn try_layers(name: &[u8], tag: u64, numbers: u64, layers: u64)
+fn try_layers(rt: &impl Print, name: &[u8], tag: u64, numbers: u64, layers: u64) -> io::Result<()>
     requires { (numbers ≤ 51) × (layers ≤ 17) }
 {
     let mut net = [0u8; 256];
     let at = put_start(&mut net, tag, numbers);
     let size = put_node(&mut net, at, 5, layers, 0);
-    try_net(name, &net, size);
+    try_net(rt, name, &net, size)
 }
 
 // One layer, `count` nodes with this tag, each below the one before it, and a sink below the last.
@@ -232,175 +238,207 @@ fn put_chain(net: &mut [u8], tag: u64, count: u64) -> usize {
 }
 
 // A chain, with the number x of `width` bytes at `place`.
-fn try_chain(name: &[u8], tag: u64, count: u64, place: usize, width: u64, x: u64) {
+fn try_chain(
+    rt: &impl Print,
+    name: &[u8],
+    tag: u64,
+    count: u64,
+    place: usize,
+    width: u64,
+    x: u64,
+) -> io::Result<()> {
     let mut net = [0u8; 4096];
     let size = put_chain(&mut net, tag, count);
     put(&mut net, place, width, x);
-    try_net(name, &net, size);
+    try_net(rt, name, &net, size)
 }
 
 // One layer, and two or three sinks below the driver.
-fn try_sinks() {
+fn try_sinks(rt: &impl Print) -> io::Result<()> {
     let mut net = [0u8; 128];
     let at = put_start(&mut net, 1, 2);
     let one = put_node(&mut net, at, 5, 1, 0);
     let two = put_node(&mut net, one, 5, 1, 0);
     let three = put_node(&mut net, two, 5, 1, 0);
-    try_net(b"two children", &net, two);
-    try_net(b"third child", &net, three);
+    try_net(rt, b"two children", &net, two)?;
+    try_net(rt, b"third child", &net, three)
 }
 
 // The rows of 'Nets to try' that concern reading.
-fn try_rows() {
-    long(b"empty input", 0);
-    try_net_a();
-    long(b"net B", NET_B);
-    try_chain(b"63 buffers", 4, 63, 0, 0, 0);
-    try_chain(b"64 buffers", 4, 64, 0, 0, 0);
+fn try_rows(rt: &impl Print) -> io::Result<()> {
+    long(rt, b"empty input", 0)?;
+    try_net_a(rt)?;
+    long(rt, b"net B", NET_B)?;
+    try_chain(rt, b"63 buffers", 4, 63, 0, 0, 0)?;
+    try_chain(rt, b"64 buffers", 4, 64, 0, 0, 0)
 }
 
 // 1480 and 2836 are the places of the lengths of the 64th buffer and of the 256th node.
-fn try_counts() {
-    try_chain(b"64th buffer with length 4001", 4, 64, 1480, 2, 4001);
-    try_chain(b"255 nodes", 3, 254, 0, 0, 0);
-    try_chain(b"256 nodes", 3, 255, 0, 0, 0);
-    try_chain(b"256th node with length 4001", 3, 255, 2836, 2, 4001);
+fn try_counts(rt: &impl Print) -> io::Result<()> {
+    try_chain(rt, b"64th buffer with length 4001", 4, 64, 1480, 2, 4001)?;
+    try_chain(rt, b"255 nodes", 3, 254, 0, 0, 0)?;
+    try_chain(rt, b"256 nodes", 3, 255, 0, 0, 0)?;
+    try_chain(rt, b"256th node with length 4001", 3, 255, 2836, 2, 4001)
 }
 
-fn try_layer_counts() {
-    try_layers(b"1 layer", 1, 2, 1);
-    try_layers(b"16 layers", 1, 32, 16);
-    try_layers(b"17 layers", 1, 34, 17);
-    try_layers(b"no layers", 1, 0, 0);
-    with(b"layers length 6", 1, 2, 6);
-    try_layers(b"layers length 12", 1, 6, 3);
+fn try_layer_counts(rt: &impl Print) -> io::Result<()> {
+    try_layers(rt, b"1 layer", 1, 2, 1)?;
+    try_layers(rt, b"16 layers", 1, 32, 16)?;
+    try_layers(rt, b"17 layers", 1, 34, 17)?;
+    try_layers(rt, b"no layers", 1, 0, 0)?;
+    with(rt, b"layers length 6", 1, 2, 6)?;
+    try_layers(rt, b"layers length 12", 1, 6, 3)
 }
 
 // The second edition's layers have 6 bytes each, which is refused where the first edition's 4 are not, and the other way round.
-fn try_via_layer_counts() {
-    try_layers(b"tag 7, 1 layer", 7, 3, 1);
-    try_layers(b"tag 7, 15 layers", 7, 45, 15);
-    try_layers(b"tag 7, 16 layers", 7, 48, 16);
-    try_layers(b"tag 7, 17 layers", 7, 51, 17);
-    try_layers(b"tag 7, no layers", 7, 0, 0);
-    try_layers(b"tag 7, length 4", 7, 2, 1);
-    try_layers(b"tag 7, length 8", 7, 4, 2);
-    try_layers(b"tag 7, length 10", 7, 5, 2);
-    try_layers(b"tag 7, length 12", 7, 6, 2);
-    try_layers(b"tag 7, length 64", 7, 32, 16);
+fn try_via_layer_counts(rt: &impl Print) -> io::Result<()> {
+    try_layers(rt, b"tag 7, 1 layer", 7, 3, 1)?;
+    try_layers(rt, b"tag 7, 15 layers", 7, 45, 15)?;
+    try_layers(rt, b"tag 7, 16 layers", 7, 48, 16)?;
+    try_layers(rt, b"tag 7, 17 layers", 7, 51, 17)?;
+    try_layers(rt, b"tag 7, no layers", 7, 0, 0)?;
+    try_layers(rt, b"tag 7, length 4", 7, 2, 1)?;
+    try_layers(rt, b"tag 7, length 8", 7, 4, 2)?;
+    try_layers(rt, b"tag 7, length 10", 7, 5, 2)?;
+    try_layers(rt, b"tag 7, length 12", 7, 6, 2)?;
+    try_layers(rt, b"tag 7, length 64", 7, 32, 16)
 }
 
-fn try_via_resistances() {
-    try_vias(b"via resistance 0", 0, 0);
-    try_vias(b"via resistance 1000", 1000, 0);
-    try_vias(b"via resistance 1001", 1001, 0);
-    try_vias(b"second via resistance 1000", 0, 1000);
-    try_vias(b"second via resistance 1001", 0, 1001);
-    try_vias(b"second via resistance 65535", 0, 65535);
+fn try_via_resistances(rt: &impl Print) -> io::Result<()> {
+    try_vias(rt, b"via resistance 0", 0, 0)?;
+    try_vias(rt, b"via resistance 1000", 1000, 0)?;
+    try_vias(rt, b"via resistance 1001", 1001, 0)?;
+    try_vias(rt, b"second via resistance 1000", 0, 1000)?;
+    try_vias(rt, b"second via resistance 1001", 0, 1001)?;
+    try_vias(rt, b"second via resistance 65535", 0, 65535)
 }
 
-fn try_unit_values() {
-    with(b"unit resistance 0", 3, 2, 0);
-    with(b"unit resistance 1", 3, 2, 1);
-    with(b"unit resistance 1000", 3, 2, 1000);
-    with(b"unit resistance 1001", 3, 2, 1001);
-    with(b"unit capacitance 0", 5, 2, 0);
-    with(b"unit capacitance 1", 5, 2, 1);
-    with(b"unit capacitance 1000", 5, 2, 1000);
-    with(b"unit capacitance 1001", 5, 2, 1001);
-    with(b"second unit capacitance 1001", 9, 2, 1001);
+fn try_unit_values(rt: &impl Print) -> io::Result<()> {
+    with(rt, b"unit resistance 0", 3, 2, 0)?;
+    with(rt, b"unit resistance 1", 3, 2, 1)?;
+    with(rt, b"unit resistance 1000", 3, 2, 1000)?;
+    with(rt, b"unit resistance 1001", 3, 2, 1001)?;
+    with(rt, b"unit capacitance 0", 5, 2, 0)?;
+    with(rt, b"unit capacitance 1", 5, 2, 1)?;
+    with(rt, b"unit capacitance 1000", 5, 2, 1000)?;
+    with(rt, b"unit capacitance 1001", 5, 2, 1001)?;
+    with(rt, b"second unit capacitance 1001", 9, 2, 1001)
 }
 
-fn try_driver() {
-    with(b"driver resistance 100000", 14, 4, 100_000);
-    with(b"driver resistance 100001", 14, 4, 100_001);
-    with(b"driver intrinsic delay 1000000000", 18, 4, 1_000_000_000);
-    with(b"driver intrinsic delay 1000000001", 18, 4, 1_000_000_001);
+fn try_driver(rt: &impl Print) -> io::Result<()> {
+    with(rt, b"driver resistance 100000", 14, 4, 100_000)?;
+    with(rt, b"driver resistance 100001", 14, 4, 100_001)?;
+    with(
+        rt,
+        b"driver intrinsic delay 1000000000",
+        18,
+        4,
+        1_000_000_000,
+    )?;
+    with(
+        rt,
+        b"driver intrinsic delay 1000000001",
+        18,
+        4,
+        1_000_000_001,
+    )
 }
 
-fn try_arrival() {
-    with(b"arrival -10^15", 22, 8, minus(MAX_TIME));
-    with(b"arrival -10^15 - 1", 22, 8, minus(MAX_TIME + 1));
-    with(b"arrival 10^15", 22, 8, MAX_TIME);
-    with(b"arrival 10^15 + 1", 22, 8, MAX_TIME + 1);
+fn try_arrival(rt: &impl Print) -> io::Result<()> {
+    with(rt, b"arrival -10^15", 22, 8, minus(MAX_TIME))?;
+    with(rt, b"arrival -10^15 - 1", 22, 8, minus(MAX_TIME + 1))?;
+    with(rt, b"arrival 10^15", 22, 8, MAX_TIME)?;
+    with(rt, b"arrival 10^15 + 1", 22, 8, MAX_TIME + 1)
 }
 
-fn try_edge() {
-    with(b"length 0", 35, 2, 0);
-    with(b"length 1000", 35, 2, 1000);
-    with(b"length 1001", 35, 2, 1001);
-    with(b"length 4000", 35, 2, 4000);
-    with(b"length 4001", 35, 2, 4001);
-    with(b"length 65535", 35, 2, 65535);
-    with(b"cost 0", 37, 4, 0);
-    with(b"cost 1", 37, 4, 1);
-    with(b"cost 1000000", 37, 4, 1_000_000);
-    with(b"cost 1000001", 37, 4, 1_000_001);
-    with(b"second cost 0", 41, 4, 0);
+fn try_edge(rt: &impl Print) -> io::Result<()> {
+    with(rt, b"length 0", 35, 2, 0)?;
+    with(rt, b"length 1000", 35, 2, 1000)?;
+    with(rt, b"length 1001", 35, 2, 1001)?;
+    with(rt, b"length 4000", 35, 2, 4000)?;
+    with(rt, b"length 4001", 35, 2, 4001)?;
+    with(rt, b"length 65535", 35, 2, 65535)?;
+    with(rt, b"cost 0", 37, 4, 0)?;
+    with(rt, b"cost 1", 37, 4, 1)?;
+    with(rt, b"cost 1000000", 37, 4, 1_000_000)?;
+    with(rt, b"cost 1000001", 37, 4, 1_000_001)?;
+    with(rt, b"second cost 0", 41, 4, 0)
 }
 
-fn try_buffer() {
-    with(b"buffer capacitance 100000", 45, 4, 100_000);
-    with(b"buffer capacitance 100001", 45, 4, 100_001);
-    with(b"buffer resistance 100000", 49, 4, 100_000);
-    with(b"buffer resistance 100001", 49, 4, 100_001);
-    with(b"buffer intrinsic delay 1000000000", 53, 4, 1_000_000_000);
-    with(b"buffer intrinsic delay 1000000001", 53, 4, 1_000_000_001);
+fn try_buffer(rt: &impl Print) -> io::Result<()> {
+    with(rt, b"buffer capacitance 100000", 45, 4, 100_000)?;
+    with(rt, b"buffer capacitance 100001", 45, 4, 100_001)?;
+    with(rt, b"buffer resistance 100000", 49, 4, 100_000)?;
+    with(rt, b"buffer resistance 100001", 49, 4, 100_001)?;
+    with(
+        rt,
+        b"buffer intrinsic delay 1000000000",
+        53,
+        4,
+        1_000_000_000,
+    )?;
+    with(
+        rt,
+        b"buffer intrinsic delay 1000000001",
+        53,
+        4,
+        1_000_000_001,
+    )
 }
 
-fn try_sink() {
-    with(b"sink capacitance 100000", 72, 4, 100_000);
-    with(b"sink capacitance 100001", 72, 4, 100_001);
-    with(b"required time -10^15", 76, 8, minus(MAX_TIME));
-    with(b"required time -10^15 - 1", 76, 8, minus(MAX_TIME + 1));
-    with(b"required time 10^15", 76, 8, MAX_TIME);
-    with(b"required time 10^15 + 1", 76, 8, MAX_TIME + 1);
+fn try_sink(rt: &impl Print) -> io::Result<()> {
+    with(rt, b"sink capacitance 100000", 72, 4, 100_000)?;
+    with(rt, b"sink capacitance 100001", 72, 4, 100_001)?;
+    with(rt, b"required time -10^15", 76, 8, minus(MAX_TIME))?;
+    with(rt, b"required time -10^15 - 1", 76, 8, minus(MAX_TIME + 1))?;
+    with(rt, b"required time 10^15", 76, 8, MAX_TIME)?;
+    with(rt, b"required time 10^15 + 1", 76, 8, MAX_TIME + 1)
 }
 
-fn try_parents() {
-    with(b"own number as parent", 60, 2, 2);
-    with(b"higher number as parent", 60, 2, 3);
-    with(b"own number as parent, length 4001", 60, 4, 0x0002_0fa1);
-    try_sinks();
-    try_chain(b"sink as parent", 5, 1, 0, 0, 0);
+fn try_parents(rt: &impl Print) -> io::Result<()> {
+    with(rt, b"own number as parent", 60, 2, 2)?;
+    with(rt, b"higher number as parent", 60, 2, 3)?;
+    with(rt, b"own number as parent, length 4001", 60, 4, 0x0002_0fa1)?;
+    try_sinks(rt)?;
+    try_chain(rt, b"sink as parent", 5, 1, 0, 0, 0)
 }
 
-fn try_childless() {
-    long(b"childless buffer at the end", 57);
-    with(b"childless buffer before a sink", 60, 2, 0);
-    long(b"layers and driver alone", 30);
+fn try_childless(rt: &impl Print) -> io::Result<()> {
+    long(rt, b"childless buffer at the end", 57)?;
+    with(rt, b"childless buffer before a sink", 60, 2, 0)?;
+    long(rt, b"layers and driver alone", 30)
 }
 
-fn try_ends() {
-    long(b"layers alone", 11);
-    long(b"one trailing byte", NET_B + 1);
-    long(b"two trailing bytes", NET_B + 2);
-    long(b"three trailing bytes", NET_B + 3);
-    long(b"missing payload", NET_B - 1);
+fn try_ends(rt: &impl Print) -> io::Result<()> {
+    long(rt, b"layers alone", 11)?;
+    long(rt, b"one trailing byte", NET_B + 1)?;
+    long(rt, b"two trailing bytes", NET_B + 2)?;
+    long(rt, b"three trailing bytes", NET_B + 3)?;
+    long(rt, b"missing payload", NET_B - 1)
 }
 
-fn try_heads() {
-    with(b"tag 7 with the length of tag 1", 0, 1, 7);
-    with(b"tag 7 in a node's place", 57, 1, 7);
-    with(b"wrong tag", 57, 1, 6);
-    try_net_b(b"wrong tag with missing payload", 57, 1, 6, NET_B - 1);
-    with(b"wrong length", 58, 2, 23);
+fn try_heads(rt: &impl Print) -> io::Result<()> {
+    with(rt, b"tag 7 with the length of tag 1", 0, 1, 7)?;
+    with(rt, b"tag 7 in a node's place", 57, 1, 7)?;
+    with(rt, b"wrong tag", 57, 1, 6)?;
+    try_net_b(rt, b"wrong tag with missing payload", 57, 1, 6, NET_B - 1)?;
+    with(rt, b"wrong length", 58, 2, 23)
 }
 
-fn main() {
-    try_rows();
-    try_counts();
-    try_layer_counts();
-    try_via_layer_counts();
-    try_unit_values();
-    try_via_resistances();
-    try_driver();
-    try_arrival();
-    try_edge();
-    try_buffer();
-    try_sink();
-    try_parents();
-    try_childless();
-    try_ends();
-    try_heads();
+fn main(rt: HostRuntime) -> io::Result<()> {
+    try_rows(&rt)?;
+    try_counts(&rt)?;
+    try_layer_counts(&rt)?;
+    try_via_layer_counts(&rt)?;
+    try_unit_values(&rt)?;
+    try_via_resistances(&rt)?;
+    try_driver(&rt)?;
+    try_arrival(&rt)?;
+    try_edge(&rt)?;
+    try_buffer(&rt)?;
+    try_sink(&rt)?;
+    try_parents(&rt)?;
+    try_childless(&rt)?;
+    try_ends(&rt)?;
+    try_heads(&rt)
 }

@@ -1,4 +1,6 @@
 // The windows of the stages: from when to when each can be reached, whatever the layers. The rows of the work table are cut to them.
+#![tactic(auto)]
+
 ghost use Rattle.std.specs.Prelude.{◌≡◌, ◌+◌, ◌*◌, ◌≤◌, ◌<◌, length, pos, ◌+ℤ◌};
 ghost use Rattle.rules.specs.Bytes.{max_layers};
 ghost use Rattle.oracle.specs.Stages.{StageTree};
@@ -9,7 +11,7 @@ ghost use Rattle.windows.specs.Clauses.{DelayRange, WindowsIn, Opened};
 use slices::Tree;
 
 // The least and the greatest delay to a stage.
-#[derive(Drop)]
+#[derive(Clone, Copy)]
 struct Delays {
     least: u64,
     most: u64,

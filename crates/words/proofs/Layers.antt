@@ -1,4 +1,5 @@
 -- The layers and the driver: what their writes leave in the array, and their ranges at the values that the code has in hand.
+use Rattle.std.specs.Prelude.{if◌then◌else◌}
 use mathlib.Core.Path.{◌≡◌, refl, ap, sym, ◌∙◌}
 use mathlib.Core.Bool.{Bool, true, false, ◌&&◌}
 use mathlib.Core.Logic.{◌⊎◌, inl, inr}
@@ -10,7 +11,7 @@ use lib.Dec.{leb, eqb}
 use lib.ListN.{length, get_or, set, length-set}
 use lib.Seq.{get_or-set_same, get_or-set_other}
 use lib.IntN.{ℤ}
-use Rattle.laws.specs.Basic.{if◌then◌else◌, all, from, within}
+use Rattle.laws.specs.Basic.{all, from, within}
 use Rattle.laws.specs.Booleans.{same_or}
 use Rattle.laws.specs.Lists.{scan, scan-start, scan_no, scan-more, scan_end, map-map, map_same, from-mem}
 use Rattle.rules.specs.Bytes.{max_layers, max_unit, max_via_res, via_layers_tag, number, signed, layer_size, layer_at, is_layer, driver_at, is_driver, is_kind, is_time}

@@ -2,8 +2,8 @@
 -- of layer l, number 16 + l its unit capacitance, number 32 + l its via resistance. Then rows of 22 numbers. Row j is node j: its tag, its parent, the length
 -- of the edge to it, its own three words, and the edge's cost on each layer. Row 0 is the driver's: the tag of a buffer, the count of nodes after it, the count
 -- of layers, 0, gate resistance, intrinsic delay, and the two halves of its arrival time.
-use Rattle.std.specs.Prelude.{◌≡◌, Bool, true, List, map, ℕ, ◌+◌, ◌*◌, ◌≤◌, eqb, length, get_or}
-use Rattle.laws.specs.Basic.{if◌then◌else◌, from}
+use Rattle.std.specs.Prelude.{◌≡◌, Bool, true, List, map, ℕ, ◌+◌, ◌*◌, ◌≤◌, eqb, length, get_or, if◌then◌else◌}
+use Rattle.laws.specs.Basic.{from}
 use Rattle.rules.specs.Tree as tree
 use Rattle.rules.specs.Bytes.{max_layers, max_nodes, steiner_tag, buffer_tag, signed}
 use Rattle.rules.specs.declared.Kind.{Kind}

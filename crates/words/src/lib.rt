@@ -1,7 +1,8 @@
 // A net in one array of 32-bit words (its layout: specs/Words.antt): how the parts of the bytes are put into it, and how its numbers are looked up. No other
 // crate names a place in the array.
-ghost use Rattle.std.specs.Prelude.{◌≡◌, ℕ, ◌+◌, ◌*◌, ◌≤◌, ◌<◌, eqb, length, set};
-ghost use Rattle.laws.specs.Basic.{if◌then◌else◌};
+#![tactic(auto)]
+
+ghost use Rattle.std.specs.Prelude.{◌≡◌, ℕ, ◌+◌, ◌*◌, ◌≤◌, ◌<◌, eqb, length, set, if◌then◌else◌};
 ghost use Rattle.rules.specs.Tree.{layer_count, at};
 ghost use Rattle.rules.specs.Bytes.{max_layers, max_nodes, via_layers_tag, number, layer_size, kind_size};
 ghost use Rattle.rules.specs.Timing.{layer, edge_cost};
@@ -40,7 +41,7 @@ pub const WORDS: usize = ROWS_AT + (rules::MAX_NODES + 1) * WIDTH;
 pub const CHECK_WORDS: usize = ROWS_AT + 2 * WIDTH;
 
 // A node record: its parent, the length of the edge to it, its kind. Its costs stay in the array.
-#[derive(Drop)]
+#[derive(Clone, Copy)]
 pub struct Node {
     pub parent: usize,
     pub len: u64,
@@ -72,7 +73,7 @@ fn kind_of(tag: u32, a: u32, b: u32, c: u32) -> Kind
 }
 
 // The record in row j.
-pub fn node_in_turn(words: &[u32], j: usize) -> Node
+pub fn node_in(words: &[u32], j: usize) -> Node
     requires { node_row (j + 1) ≤ length words.now }
     ensures { result ≡ record_in words.now j }
 {
@@ -224,7 +225,7 @@ pub fn node_at(words: &[u32], j: usize) -> Node
     requires { (nodes : ℕ) × (layers : ℕ) × Held words.now nodes layers × (1 ≤ j) × (j ≤ nodes) }
     ensures { result ≡ record_of (at (net_in words.now) j) }
 {
-    node_in_turn(words, j)
+    node_in(words, j)
 }
 
 // The number of layers.

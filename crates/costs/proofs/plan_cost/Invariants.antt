@@ -1,0 +1,12 @@
+-- `plan_cost` is right: before node j the total is what the edges before it cost on the layers of their stages.
+use Prim.Native.Nat.{◌-◌, ◌≤◌, ◌+◌}
+use mathlib.Core.Path.{◌≡◌}
+use Rattle.words.specs.Words.{net_in}
+use Rattle.costs.specs.Priced.{cost_to, cost_under}
+use Rattle.costs.proofs.plan_cost.Given as goal
+
+abbrev pub invariant-loop-j : goal.invariant-loop-j
+invariant-loop-j l = (1 ≤ l.j) × (l.j ≤ l.nodes + 1) × (l.total ≡ cost_to (cost_under (net_in l.words) l.plan) (l.j - 1))
+
+abbrev pub decreases-loop-j : goal.decreases-loop-j
+decreases-loop-j l = l.nodes + 1 - l.j

@@ -1,0 +1,12 @@
+-- `need_on` is right: it adds the rounded cost and what the stages driven need, up to one more than the budgets, and the links pass over none; a late
+-- sink is above them all.
+use Prim.Native.Nat.{◌-◌}
+use Rattle.readoff.proofs.Needs.{NeedSoFar}
+use Rattle.readoff.proofs.need_on.Given as goal
+
+abbrev pub invariant-loop-j : goal.invariant-loop-j
+invariant-loop-j l =
+    NeedSoFar l.table l.driver l.first l.next l.delay l.limit l.cost l.starts l.ends l.n.stages l.n.width l.n.grain l.i l.l l.t l.need l.j
+
+abbrev pub decreases-loop-j : goal.decreases-loop-j
+decreases-loop-j l = l.n.stages - l.j
