@@ -49,7 +49,6 @@ class Walk:
         self.needs = []
         for (old, new), (at, _) in zip(x["needs"], x["asked_at"]):
             self.needs.append((old, new, at))
-        self.settled = x.get("settled") or []
         typed = x.get("typed") or []
         self.typed = {}
         for i, rows in enumerate(typed):
@@ -109,8 +108,6 @@ class Walk:
                             k += 1
                         if k < len(rest) and rest[k] == "0" and n < len(params):
                             rest = [rest[0], params[n]] + rest[k + 1:]
-                    if rest[0] == "claims" or rest[0] == "args":
-                        pass
                 return [step[1]] + rest
         if norm(seg) in {norm(k) for k in self.typed} and rest and rest[0] == "given":
             var = next(v for k, v in self.typed.items() if norm(k) == norm(seg))
@@ -288,23 +285,6 @@ def arguments(text, pos, n):
     return args, pos
 
 
-def turn_type(walk, text, left):
-    """tie.PLACE with its invariants becomes goal.PLACE."""
-    loops = r"(?:\s+(?:invariant|decreases)-[^\s()→]+)*"
-
-    def one(m):
-        w = m[1]
-        if w.startswith("Need-"):
-            left.append("type " + m[0])
-            return m[0]
-        new = walk.new_place.get(norm(w))
-        if not new:
-            left.append("place " + w)
-            return m[0]
-        return "goal." + new
-    return re.sub(rf"\b(?:tie|lts)\.([A-Z][^\s().→]*){loops}", one, text)
-
-
 def blocks(text):
     """The header's lines, the use lines, and the blocks that follow: each with the comment above it."""
     lines = text.split("\n")
@@ -470,11 +450,8 @@ def convert(crate, f, walk, path):
     top = "\n".join(h for h in head if h.strip())
     if inv:
         write(os.path.join(folder, "Invariants.antt"), top, keep + [f"use {module}.Given as goal"], inv)
-        top_ans = top
     if ans:
         write(os.path.join(folder, "Answers.antt"), top, keep + [f"use {module}.Goals as goal"], ans)
-    if not inv and not ans:
-        pass
     os.remove(path)
     for l in left:
         print(f"left: {crate}::{f}: {l}")
@@ -527,6 +504,8 @@ def write(path, top, uses, parts):
 
 
 def main(argv):
+    if not argv or argv[0].startswith("-"):
+        sys.exit(__doc__)
     crate = argv[0]
     names = generated(crate)
     folder = os.path.join("crates", crate, "proofs")
