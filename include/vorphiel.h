@@ -30,7 +30,7 @@
  *   Platform  Linux on x86-64, ELF; every x86-64 processor will do. Needs memcpy and memset, and nothing else.
  *   State     none: no data, memory, file or lock of its own. Calls may run in several threads at once if each has its
  *             own table, plan buffer, desk and results; what is only read they may share.
- *   Stack     at most 178 kB for vorphiel_report, 110 kB for vorphiel_plan and vorphiel_plan_rounds, 50 kB for
+ *   Stack     at most 180 kB for vorphiel_report, 111 kB for vorphiel_plan and vorphiel_plan_rounds, 50 kB for
  *             vorphiel_judge and vorphiel_desk_read, and 13 kB for the others, as measured. A thread with 256 kB has
  *             room for every call.
  *   Pointers  Each is valid for the length given with it, which is counted in entries for a table and in bytes for all

@@ -11,45 +11,31 @@ use lib.ListN.{length, set, length-set}
 use lib.Seq.{get_or-set_same, get_or-set_other}
 use Rattle.laws.specs.Booleans.{same_or}
 use lib.IntN.{ℤ, pos, ◌-ℤ◌}
-use lib.Signed.{le_z}
+use lib.Signed.{le_z, lt_z}
+use Rattle.std.specs.Int.{int_min}
+use Rattle.std.proofs.lemmas.List.{places}
+use Rattle.std.specs.Prelude.{replicate}
+use borrow.Rule.Slice.PartMut.{put_mid}
 use mir.Syntax.{w64}
 use mir.Facts.{to_z-of_z, to_z_pos}
 use mir.Val.{SFits, to_z, of_z}
 use Rattle.laws.specs.Basic.{min_z}
 use Rattle.laws.specs.Extremes.{max_z}
-use Rattle.laws.specs.Integers.{up, down, true_le}
+use Rattle.laws.specs.Integers.{up, down, true_le, lt_true, lt_false}
 use Rattle.oracle.specs.Band.{pointers, merge, MergedBand, from_column, pointer_a, pointer_b, band-entries, band_limit, band-merge, band-front, band_end, end_inner, FirstIn}
 use Rattle.slices.specs.Laid.{max_delay, max_entry}
 use Rattle.bands.specs.Entries.{row_at, over_delay, KeptOutside, merged_low, never, never-range, InRange, range-fits, range-before, range_minus, range-more, range-min, range-max}
-use Rattle.bands.specs.Clauses.{Filled, BranchIn, Branched, MergeIn, Merged, merged_start, SpendIn, Spent, RaiseIn, RaisedRow, Widened, Cut}
+use Rattle.bands.specs.Clauses.{Filled, BranchIn, Branched, MergeIn, Merged, merged_start, SpendIn, Spent, RaiseIn, RaisedRow, Cut}
 use Rattle.bands.proofs.Writing.{Written, written_start, written-more, written_same, written-other}
 
--- fill: the entries before column `start` stay.
-abbrev FillEntry : (before : List ℤ) (row start : ℕ) (x : ℤ) → ℕ → ℤ → Type 0
-FillEntry before row start x v z = (v < start → z ≡ row_at before row v) × (start ≤ v → z ≡ x)
-
-pub record Filling (before : List ℤ) (row start end : ℕ) (x : ℤ) (table : List ℤ) (w : ℕ) : Type 0 where
-  pub low : start ≤ w
-  pub written : Written (FillEntry before row start x) before row end table w
-
-pub fill_start : {before : List ℤ} {row start end : ℕ} {x : ℤ} → Filling before row start end x before start
-fill_start {start = start} = record { low = omega arith; written = written_start start (λ v h b. ((λ k. refl), (λ k. absurd (omega arith)))) }
-
-pub fill_more : {before table : List ℤ} {row start end w : ℕ} {x : ℤ} → Filling before row start end x table w → w < end → row + end ≤ length before
-    → Filling before row start end x (set table (row + w) x) (w + 1)
-fill_more F h b = record { low = omega (arith, F.low); written = written-more F.written h b ((λ k. absurd (omega (arith, F.low))), (λ k. refl)) }
-
-pub fill_end : {before table : List ℤ} {row start end w : ℕ} {x value : ℤ} → Filling before row start end x table w → end ≤ w → x ≡ value
-    → Filled before table row start end value
-fill_end {before} {table} {row} {start} {end} {w} F h e = record {
-  kept = F.written.kept;
-  early = λ v k. early v k (dec_le end v);
-  entries = λ v a b. (F.written.done v (omega arith) b).1 a ∙ e;
-}
-  where
-    early : (v : ℕ) → v < start → Dec (end ≤ v) → row_at table row v ≡ row_at before row v
-    early v k (yes q) = F.written.kept.others (row + v) (λ u a b. omega arith)
-    early v k (no q) = (F.written.done v (omega arith) (omega arith)).0 k
+-- fill: the columns from `start` to before `end` are replaced, all by the value; the others stay.
+pub filled : {before part : List ℤ} {row start end : ℕ} {value : ℤ} → start < end → row + end ≤ length before → part ≡ replicate (end - start) value
+    → Filled before (put_mid (row + start) (row + end - (row + start)) before part) row start end value
+filled {before} {part} {row} {start} {end} h long e = rw e (record {
+  kept = record { long = grind (arith, places); others = λ m o. grind (arith, places, o (m - row)) };
+  early = λ w k. grind (arith, places);
+  entries = λ w a b. grind (arith, places);
+})
 
 -- A signed number in code is its 64 bits: an entry read, and an entry less a delay.
 pub entry-is : {z y : ℤ} → z ≡ y → InRange merged_low y → to_z w64 (of_z w64 z) ≡ y
@@ -65,13 +51,18 @@ module _ {z y : ℤ} {d : ℕ} (e : z ≡ y) (r : InRange merged_low (y -ℤ pos
   pub less-is : to_z w64 (of_z w64 (to_z w64 (of_z w64 z) -ℤ to_z w64 d)) ≡ y -ℤ pos d
   less-is = entry-is less r
 
+-- The lesser of two times is the definition's.
+pub lesser-time : {x y : ℤ} → x ≡ y → (z : ℤ) → int_min x z ≡ min_z y z
+lesser-time {y = y} e z = rw e (go (lt_z z y) refl)
+  where
+    go : (b : Bool) → lt_z z y ≡ b → int_min y z ≡ min_z y z
+    go true q = rw (q, lt_true z y q)
+    go false q = rw (q, lt_false z y q)
+
 -- branch: the entry of the driven stage less the delay, or the limit.
 pub record Branching (before : List ℤ) (from out start end d : ℕ) (limit : ℤ) (table : List ℤ) (w : ℕ) : Type 0 where
   pub low : start ≤ w
   pub written : Written (λ v z. start ≤ v → z ≡ min_z (over_delay before from d v) limit) before out end table w
-
-pub branch_start : {before : List ℤ} {from out start end d : ℕ} {limit : ℤ} → Branching before from out start end d limit before start
-branch_start {start = start} = record { low = omega arith; written = written_start start (λ v h b k. absurd (omega arith)) }
 
 module _ {before table : List ℤ} {from out start end d w : ℕ} {limit r : ℤ}
     (I : BranchIn before from out start end d limit) (B : Branching before from out start end d r table w) where
@@ -81,11 +72,8 @@ module _ {before table : List ℤ} {from out start end d w : ℕ} {limit r : ℤ
   pub branch_read : w < end → row_at table from w ≡ row_at before from w
   branch_read h = written-other B.written from I.apart w h
 
-  pub branch_low : {x : ℤ} → w < end → x ≡ over_delay before from d w → le_z x r ≡ true → Branching before from out start end d r (set table (out + w) x) (w + 1)
-  branch_low h e t = record { low = omega (arith, B.low); written = written-more B.written h I.out_in (λ k. rw (← e, t)) }
-
-  pub branch_high : {x : ℤ} → w < end → x ≡ over_delay before from d w → le_z x r ≡ false → Branching before from out start end d r (set table (out + w) r) (w + 1)
-  branch_high h e t = record { low = omega (arith, B.low); written = written-more B.written h I.out_in (λ k. rw (← e, t)) }
+  pub branch_more : {x : ℤ} → w < end → x ≡ min_z (over_delay before from d w) r → Branching before from out start end d r (set table (out + w) x) (w + 1)
+  branch_more h e = record { low = omega (arith, B.low); written = written-more B.written h I.out_in (λ k. e) }
 
   pub branch_end : end ≤ w → r ≡ limit → Branched before table from out start end d limit
   branch_end h e = record {
@@ -270,14 +258,6 @@ pub record Spending (before : List ℤ) (from out start end c d : ℕ) (table : 
   pub done : (v : ℕ) → c + start ≤ v → c + i ≤ v → v < c + end → row_at table out v ≡ max_z (row_at before out v) (over_delay before from d (v - c))
   pub rest : (v : ℕ) → (v < c + start) ⊎ (v < c + i) → row_at table out v ≡ row_at before out v
 
-pub spend_start : {before : List ℤ} {from out start end c d : ℕ} → Spending before from out start end c d before end
-spend_start = record {
-  most = omega arith;
-  kept = record { long = refl; others = λ m o. refl };
-  done = λ v a h b. absurd (omega arith);
-  rest = λ v h. refl;
-}
-
 module _ {before table : List ℤ} {from out start end c d n i : ℕ} (I : SpendIn before from out start end c d) (S : Spending before from out start end c d table n)
     (one : n ≡ suc i) (h : start ≤ i) where
   pub spend_from : row_at table from i ≡ row_at before from i
@@ -428,45 +408,6 @@ pub record Halving (A : ℕ → ℤ) (start end : ℕ) (t : ℤ) (low high : ℕ
   pub inside : high ≤ end
   pub reaches : high < end → le_z t (A high) ≡ true
   pub before : (w : ℕ) → start ≤ w → suc w ≡ low → le_z t (A w) ≡ false
-
-module _ {A : ℕ → ℤ} {start end : ℕ} {t : ℤ} where
-  pub halving_start : start ≤ end → Halving A start end t start end
-  halving_start h = record { begun = omega arith; ordered = h; inside = omega arith; reaches = λ k. absurd (omega arith); before = λ w a e. absurd (omega arith) }
-
-  module _ {low high mid : ℕ} (here : Halving A start end t low high) (a : low ≤ mid) (b : mid < high) where
-    pub halving_left : le_z t (A mid) ≡ true → Halving A start end t low mid
-    halving_left e = record { begun = here.begun; ordered = a; inside = omega (arith, here.inside); reaches = λ h. e; before = here.before }
-
-    pub halving_right : le_z t (A mid) ≡ false → Halving A start end t (mid + 1) high
-    halving_right e = record {
-      begun = omega (arith, here.begun);
-      ordered = omega arith;
-      inside = here.inside;
-      reaches = here.reaches;
-      before = λ w k s. let same : w ≡ mid = omega arith in rw same e;
-    }
-
-  pub halving_end : {low high : ℕ} → Halving A start end t low high → high ≤ low → FirstIn A start end t low
-  halving_end {low} {high} here h = let meet : high ≡ low = omega (arith, here.ordered) in record {
-    low_in = here.begun;
-    top_in = omega (arith, here.inside, here.ordered);
-    reaches = λ k. rw meet at (here.reaches (omega arith));
-    before = here.before;
-  }
-
--- widen.
-pub widen_none : {table : List ℤ} {row top to : ℕ} → to ≤ top → Widened table table row top to top
-widen_none h = record {
-  top_in = omega arith;
-  to_in = h;
-  most = λ m a b. a;
-  kept = record { long = refl; others = λ m o. refl };
-  same = λ w k. refl;
-  new = λ w a k. absurd (omega arith);
-}
-
-pub widen_some : {before after : List ℤ} {row top to : ℕ} → top < to → Filled before after row top to never → Widened before after row top to to
-widen_some h F = record { top_in = omega arith; to_in = omega arith; most = λ m a b. b; kept = F.kept; same = F.early; new = F.entries }
 
 -- cut.
 pub cut_empty : {table : List ℤ} {row top c : ℕ} {early early' late : ℤ} → early' ≡ early → FirstIn (row_at table row) 0 top early' c → top ≤ c → Cut table row top early late top top

@@ -1,4 +1,4 @@
--- A row that a loop writes from left to right: what holds once the columns before n are written. The four loops over columns share this.
+-- A row that a loop writes from left to right: what holds once the columns before n are written. The three loops over columns share this.
 use mathlib.Core.Path.{◌≡◌, refl, sym, ◌∙◌, subst}
 use mathlib.Core.List.{List}
 use mathlib.Core.Logic.{◌⊎◌, inl, inr}

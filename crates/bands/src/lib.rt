@@ -3,8 +3,7 @@
 // stage can be reached, and what is not met before `end` is met with no budget. A row over a delay d is read d earlier.
 #![tactic(auto)]
 
-ghost use Rattle.std.specs.Prelude.{◌≡◌, ◌+◌, ◌≤◌, min, length};
-ghost use Rattle.laws.specs.Basic.{min_z};
+ghost use Rattle.std.specs.Prelude.{◌+◌, ◌≤◌, length};
 ghost use Rattle.oracle.specs.Band.{FirstIn};
 ghost use Rattle.bands.specs.Entries.{row_at};
 ghost use Rattle.bands.specs.Clauses.{Filled, BranchIn, Branched, MergeIn, Merged, SpendIn, Spent, RaiseIn, RaisedRow, Widened, Cut};
@@ -12,35 +11,13 @@ ghost use Rattle.bands.specs.Clauses.{Filled, BranchIn, Branched, MergeIn, Merge
 // No time at all: it is before every time at which a stage is reached. (specs/Entries.antt has it for the contracts.)
 pub const NEVER: i64 = -4_611_686_018_427_387_904;
 
-// The lesser of two numbers.
-pub fn lesser(a: usize, b: usize) -> usize
-    ensures { result ≡ min a b }
-{
-    if a <= b {
-        return a;
-    }
-    b
-}
-
-// The earlier of two times.
-fn earlier(a: i64, b: i64) -> i64
-    ensures { result ≡ min_z a b }
-{
-    if a <= b {
-        return a;
-    }
-    b
-}
-
 // The columns of a row from `start` to before `end` become `value`.
 pub fn fill(table: &mut [i64], row: usize, start: usize, end: usize, value: i64)
     requires { row + end ≤ length table.old }
     ensures { Filled table.old table.new row start end value }
 {
-    let mut w = start;
-    while w < end {
-        table[row + w] = value;
-        w += 1;
+    if start < end {
+        table[row + start..row + end].fill(value);
     }
 }
 
@@ -61,15 +38,9 @@ pub fn branch(table: &mut [i64], part: Part, out: usize, limit: i64)
     let row = part.row;
     let end = part.end;
     let delay = part.delay as i64;
-    let mut w = part.start;
-    while w < end {
+    for w in part.start..end {
         let x = table[row + w] - delay;
-        if x <= limit {
-            table[out + w] = x;
-        } else {
-            table[out + w] = limit;
-        }
-        w += 1;
+        table[out + w] = x.min(limit);
     }
 }
 
@@ -88,12 +59,8 @@ pub fn merge(table: &mut [i64], a: Part, b: Part, out: usize, width: usize) -> u
     let delay_b = b.delay as i64;
     let mut i = a.start;
     let mut j = b.start;
-    let mut w = a.start + b.start;
-    while w < width {
-        if i == end_a {
-            return w;
-        }
-        if j == end_b {
+    for w in a.start + b.start..width {
+        if i == end_a || j == end_b {
             return w;
         }
         let x = table[row_a + i] - delay_a;
@@ -105,7 +72,6 @@ pub fn merge(table: &mut [i64], a: Part, b: Part, out: usize, width: usize) -> u
             table[out + w] = y;
             j += 1;
         }
-        w += 1;
     }
     width
 }
@@ -119,9 +85,7 @@ pub fn spend(table: &mut [i64], part: Part, out: usize, c: usize)
     let row = part.row;
     let start = part.start;
     let delay = part.delay as i64;
-    let mut i = part.end;
-    while start < i {
-        i -= 1;
+    for i in (start..part.end).rev() {
         let x = table[row + i] - delay;
         let y = table[out + (c + i)];
         if y <= x {
@@ -136,15 +100,13 @@ pub fn raise(table: &mut [i64], row: usize, top: usize)
     ensures { RaisedRow table.old table.new row top }
 {
     let mut best = NEVER;
-    let mut w = 0;
-    while w < top {
+    for w in 0..top {
         let x = table[row + w];
         if best <= x {
             best = x;
         } else {
             table[row + w] = best;
         }
-        w += 1;
     }
 }
 
@@ -165,6 +127,7 @@ pub fn first_column(table: &[i64], row: usize, start: usize, end: usize, t: i64)
     requires { (start ≤ end) × (row + end ≤ length table.now) }
     ensures { FirstIn (row_at table.now row) start end t result }
 {
+    // Kept: the slice's `partition_point` promises its place only where the entries are sorted, and `FirstIn` is promised of any row.
     let mut low = start;
     let mut high = end;
     while low < high {
@@ -201,7 +164,6 @@ pub fn cut(table: &[i64], row: usize, top: usize, early: i64, late: i64) -> Span
     }
     let n = top - 1;
     let last = table[row + n];
-    let target = earlier(late, last);
-    let c = first_column(table, row, start, top, target);
+    let c = first_column(table, row, start, top, late.min(last));
     Span { start, end: c + 1 }
 }

@@ -22,7 +22,9 @@ use Rattle.demands.specs.Demand2.{chosen_is}
 use Rattle.demands.specs.Call.{planned-numbered, unread-refused}
 use Rattle.demands.specs.Program.{program_refused, ProgramChoice, program_accepted}
 use Rattle.reader.specs.Net.{counts_of, counts, NetRead}
-use Rattle.reader.specs.declared.Net.TheVariants as net
+use Rattle.std.specs.Prelude.{Err}
+use Rattle.rules.specs.declared.Refusal.{Refusal}
+use Rattle.rules.specs.Refusals.{number_of}
 use Rattle.reader.specs.Kept.{Kept}
 use Rattle.words.specs.Words.{net_in}
 use Rattle.tree.specs.Plans.{Fitting, fitting}
@@ -34,11 +36,11 @@ pub record Refused (bs : List ℕ) (r : ℕ) : Type 0 where
   pub number-low : r < net_numbers
 
 -- one that reading refuses
-pub unread : {bs w : List ℕ} {keep : Bool} {r : ℕ} → NetRead bs keep (net.Refused r) w → Refused bs r
+pub unread : {bs w : List ℕ} {keep : Bool} {why : Refusal} → NetRead bs keep (Err why) w → Refused bs (number_of why)
 unfolding counts
-unread {bs} {r = r} R =
+unread {bs} {why = why} R =
     let e = turned_refused (read bs) counts_of R.answer in
-    record { number_is = unread-refused bs 1 4 program_table program_room e; number-low = omega (arith, (read-numbered bs).low r e) }
+    record { number_is = unread-refused bs 1 4 program_table program_room e; number-low = omega (arith, (read-numbered bs).low (number_of why) e) }
 
 -- one that is read may be planned as the program plans
 pub admitted-net : {bs w : List ℕ} {nodes s layers : ℕ} → Kept bs w nodes s layers → Admitted w nodes layers s 1 4 program_room
@@ -48,6 +50,10 @@ admitted-net K = record {
   share = record { most = omega arith; some-part = omega arith; parts = omega arith };
   room-enough = omega (arith, K.stages-are, K.held.accepted.few-stages);
 }
+
+-- its plan is no longer than the buffer
+pub inside-buffer : {bs w : List ℕ} {nodes s layers room : ℕ} → Kept bs w nodes s layers → room ≡ program_room → s ≤ room
+inside-buffer K e = omega (arith, K.stages-are, K.held.accepted.few-stages)
 
 module _ (bs : List ℕ) (table : List ℤ) (buffer : List ℕ) (long : length table ≡ program_table) (room : length buffer ≡ program_room)
     (r : Planned) {after : List ℕ} {cleaned : List ℤ} (P : PlansNet bs 1 4 table cleaned buffer after r) where

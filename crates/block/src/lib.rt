@@ -10,99 +10,87 @@ ghost use Rattle.rules.specs.Program.{program_table, program_room, program_plann
 ghost use Rattle.rules.specs.Block.{net_numbers, no_totals, report};
 ghost use Rattle.facts.specs.Block.{max_nets};
 ghost use Rattle.demands.specs.Totals.{plus, Small};
-ghost use Rattle.words.specs.Words.{word_count, net_in};
-ghost use Rattle.words.specs.Held.{Held};
+ghost use Rattle.words.specs.Words.{word_count};
+ghost use Rattle.words.specs.Net.{net_of};
 ghost use Rattle.tree.specs.Plans.{Fitting};
 ghost use Rattle.block.specs.Walks.{is_run, is_block};
 
-use fields::{Due, Found, field_at, number};
+use fields::{Due, field_at, number};
 use lengths::add_lengths;
 use planning::plan_net;
-use reader::{Net, net_refusal, read};
-use rules::Report;
-use words::WORDS;
+use reader::read;
+use rules::{Refusal, Report};
+use words::{Net, WORDS};
 
 // Whether the bytes are fields of tag 6 from the front to the end. No net is planned.
 fn is_run(block: &[u8]) -> bool
     ensures { result ≡ is_run block.now }
 {
     let mut at: usize = 0;
+    // Kept: no index is counted: each turn goes on by the length of the field that it read.
     while at < block.len() {
-        let found = field_at(block, at, Due::Net, 0);
-        let Found::Field {
-            tag: _,
-            start,
-            size,
-        } = found
-        else {
+        let Ok(field) = field_at(block, at, Due::Net, 0) else {
             return false;
         };
-        at = start + size;
+        at = field.start + field.size;
     }
     true
 }
 
 // Whether the bytes are a block: such fields, and not too long.
+#[tactic(auto, unfolding(crate::specs::Walks::is_block, crate::specs::Walks::is_run, rules::specs::Block::block))]
 fn is_block(block: &[u8]) -> bool
     ensures { result ≡ is_block block.now }
 {
-    if block.len() <= rules::MAX_BLOCK {
-        return is_run(block);
-    }
-    false
+    block.len() <= rules::MAX_BLOCK && is_run(block)
 }
 
 // No totals: a refusal number, 0 before the first net, and zeros.
+// Kept: the report is flat, with a refusal number: the C interface and `report` (rules/specs/Block.antt) have it so.
+#[tactic(auto, unfolding(rules::specs::Block::no_totals))]
 fn no_totals(refusal: u8) -> Report
     ensures { result ≡ no_totals refusal }
 {
-    let refused = [0u64; rules::NET_NUMBERS];
-    let lengths = [0u64; rules::MAX_LAYERS];
     Report {
         refusal,
         nets: 0,
         planned: 0,
-        refused,
+        refused: [0; rules::NET_NUMBERS],
         cost: 0,
-        lengths,
+        lengths: [0; rules::MAX_LAYERS],
     }
 }
 
 // One net more, refused with this number: it is counted, and adds nothing else.
+// Kept: refusals are counted by number (`refused`, an array by number: the C interface).
 fn add_refused(sums: Report, r: u8) -> Report
     requires { Small max_nets sums × (r < net_numbers) }
     ensures { result ≡ plus sums (refuse r) }
 {
     let mut refused = sums.refused;
-    let number = r as usize;
-    refused[number] += 1;
-    let lengths = sums.lengths;
+    refused[usize::from(r)] += 1;
     Report {
         refusal: 0,
         nets: sums.nets + 1,
-        planned: sums.planned,
         refused,
-        cost: sums.cost,
-        lengths,
+        ..sums
     }
 }
 
 // One net more, with the plan that was found: its cost and its wire on each layer are added.
-fn add_planned(sums: Report, words: &[u32], nodes: usize, plan: &[u8], cost: u64) -> Report
-    requires { Small max_nets sums × ((layers : ℕ) × Held words.now nodes layers) × Fitting (net_in words.now) plan.now ×
-        (cost ≡ timing.cost (net_in words.now) plan.now) }
-    ensures { (k : ℕ) → result ≡ plus sums (accept (record { net = net_in words.now; k = k; plan = plan.now })) }
+fn add_planned(sums: Report, net: &Net<'_>, plan: &[u8], cost: u64) -> Report
+    requires { Small max_nets sums × Fitting (net_of net.now) plan.now × (cost ≡ timing.cost (net_of net.now) plan.now) }
+    ensures { (k : ℕ) → result ≡ plus sums (accept (record { net = net_of net.now; k = k; plan = plan.now })) }
 {
     let mut lengths = sums.lengths;
-    add_lengths(words, nodes, plan, &mut lengths);
-    let refused = sums.refused;
+    add_lengths(net, plan, &mut lengths);
     Report {
         refusal: 0,
         nets: sums.nets + 1,
         planned: sums.planned + 1,
-        refused,
         cost: sums.cost + cost,
         lengths,
+        ..sums
     }
 }
 
@@ -117,20 +105,18 @@ fn add_net(
     requires { Small max_nets sums × (length words.old ≡ word_count) × (length table.old ≡ program_table) × (length plan.old ≡ program_room) }
     ensures { result ≡ plus sums (program_planned net.now) }
 {
-    let found = read(net, true, words);
-    let Net::Read {
-        nodes,
-        stages,
-        layers,
-    } = found
-    else {
-        return add_refused(sums, net_refusal(found));
+    let counts = match read(net, true, words) {
+        Ok(counts) => counts,
+        Err(why) => return add_refused(sums, u8::from(why)),
+    };
+    let net = Net {
+        words,
+        nodes: counts.nodes,
+        layers: counts.layers,
     };
     let answer = plan_net(
-        words,
-        layers,
-        nodes,
-        stages,
+        &net,
+        counts.stages,
         rules::PROGRAM_P,
         rules::PROGRAM_Q,
         table,
@@ -139,7 +125,7 @@ fn add_net(
     if answer.refusal != 0 {
         return add_refused(sums, answer.refusal);
     }
-    add_planned(sums, words, nodes, &plan[..stages], answer.cost)
+    add_planned(sums, &net, &plan[..counts.stages], answer.cost)
 }
 
 // The totals over the nets of a block. The fields are known to be there, so only their lengths are read.
@@ -152,6 +138,7 @@ fn totals(block: &[u8]) -> Report
     let mut plan = [0u8; rules::PROGRAM_ROOM];
     let mut sums = no_totals(0);
     let mut at: usize = 0;
+    // Kept: no index is counted: each turn goes on by the length of the field that it read.
     while at < block.len() {
         let start = at + 3;
         let next = start + number(block, at + 1, 2) as usize;
@@ -166,7 +153,7 @@ pub fn report(block: &[u8]) -> Report
     ensures { result ≡ report block.now }
 {
     if !is_block(block) {
-        return no_totals(13);
+        return no_totals(u8::from(Refusal::NoBlock));
     }
     totals(block)
 }

@@ -1,18 +1,6 @@
 -- The merging of all stages that stage i drives: what the band stands for once the stages before j are merged.
-use mathlib.Core.Path.{◌≡◌, refl, ap, sym, ◌∙◌, subst}
-use mathlib.Core.Bool.{Bool, true}
-use mathlib.Core.List.{List}
-use mathlib.Core.Logic.{◌⊎◌, inl, inr}
-use Prim.Native.Nat.{ℕ, suc, ◌+◌, ◌-◌, ◌*◌, ◌≤◌, ◌<◌, min}
-use native.Mathlib.Omega.{arith}
-use native.Mathlib.Nat.{mul-le-mul_right}
-use lib.Dec.{eqb}
-use lib.ListN.{length, get_or}
-use lib.IntN.{ℤ, pos, ◌+ℤ◌}
-use lib.Signed.{le_z}
-use borrow.Author.Tests.{eq-eqb, ne_eqb}
-use mir.Syntax.{w64}
-use mir.Val.{to_z, of_z}
+use Rattle.std.proofs.Common.{◌≡◌, refl, ap, sym, ◌∙◌, subst, Bool, true, List, ◌⊎◌, inl, inr, ℕ, suc, ◌+◌, ◌-◌, ◌*◌, ◌≤◌, ◌<◌, min, arith, mul-le-mul_right, eqb, get_or, ℤ, pos, ◌+ℤ◌, eq-eqb, ne_eqb, w64, to_z, of_z}
+use Rattle.std.specs.Int.Signed.{le_z}
 use Rattle.laws.specs.Integers.{le_trans}
 use Rattle.laws.specs.Passing.{passing, passing-more, passing-skip}
 use Rattle.oracle.specs.Band.{Band, LimitOn, limit_free, band-entries, band-agree, band_leaf, band_shift, band-less}
@@ -21,7 +9,7 @@ use Rattle.slices.specs.Laid.{on_layer, limit_on, max_delay, max_entry}
 use Rattle.bands.specs.Entries.{row_at, over_delay, Apart, KeptOutside, merged_low, InRange, range_minus, range-more, no_delay, apart-sym, row_ends, row_unmerged}
 use Rattle.bands.specs.Clauses.{Filled, BranchIn, Branched, MergeIn, Merged, merged_start}
 use Rattle.bands.proofs.Columns.{entry-is}
-use Rattle.branches.specs.Clauses.{UpTo, Limited, SeenIn, Seen, BandOf, BranchesIn, Below, Joined}
+use Rattle.branches.specs.Clauses.{UpTo, Limited, Seen, BandOf, BranchesIn, Below, Joined}
 
 -- A row over no delay is the row.
 undelayed_range : (table : List ℤ) (row w : ℕ) → InRange merged_low (row_at table row w) → InRange merged_low (over_delay table row 0 w)
@@ -113,11 +101,6 @@ module _ {before : List ℤ} {driver first next delay : List ℕ} {limit : List 
     range = λ w p q. subst (InRange max_entry) (sym (kept_row K j w h (omega (arith, (I.bands j a h).most)))) ((I.bands j a h).range w p q);
   }
 
-  -- A driven stage has a row before the merging rows, and its numbers are in the slices.
-  seen-sizes : (j : ℕ) → i < j → j < stages → (j * width + width ≤ stages * width) × SeenIn delay starts ends j l
-  seen-sizes j a h =
-      (row_ends width j stages h, record { delay_in = I.delays j a h; start_in = omega (arith, I.starts_long); end_in = omega (arith, I.ends-long) })
-
   -- The stage's own limit as code reads it.
   pub own_is : to_z w64 (of_z w64 (limit_on limit i l)) ≡ limit_on limit i l
   own_is = entry-is refl (range-more (limit_on limit i l) I.limit_range)
@@ -191,24 +174,8 @@ module _ {before : List ℤ} {driver first next delay : List ℕ} {limit : List 
   above-first : i < j₁
   above-first = (first-driven I).low
 
-  pub first-sizes : (j₁ * width + width ≤ stages * width) × SeenIn delay starts ends j₁ l
-  first-sizes = seen-sizes I j₁ above-first h
-
   -- The first driven stage.
   module _ {own : ℤ} {b s e d : ℕ} (o : own ≡ limit_on limit i l) (W : Seen delay starts ends (j₁ * width) left j₁ l b s e d) where
-    pub limited_in : BranchIn before b (stages * width) s e d own
-    limited_in =
-        let r = row_ends width j₁ stages h in
-        let B = I.bands j₁ above-first h in
-        rw (W.row_is, W.delay-is) (record {
-          from_in = omega (arith, I.sized, I.left-most, W.end_is);
-          out_in = omega (arith, I.sized, I.left-most, W.end_is);
-          apart = λ w k v u z. omega (arith, I.left-most, W.end_is);
-          small = I.delay-range j₁ above-first h;
-          range = λ w x y. B.range w (omega (arith, B.order, W.start_is, W.end_is)) (omega (arith, W.end_is));
-          limit_range = rw o I.limit_range;
-        })
-
     module _ {table : List ℤ} {last : ℤ} {row over : ℕ} (B : Limited before table b s e d own last (stages * width) row over) where
       began : KeptOutside before table (stages * width) (width + width)
       began = record { long = B.kept.long; others = λ m z. B.kept.others m (λ w k y. z w (omega (arith, I.left-most, W.end_is)) y) }
@@ -293,11 +260,8 @@ module _ {before : List ℤ} {driver first next delay : List ℕ} {limit : List 
 module _ {before : List ℤ} {driver first next delay : List ℕ} {limit : List ℤ} {starts ends : List ℕ} {stages width left i l row₀ start₀ end₀ over₀ begun : ℕ}
     {table : List ℤ} {row spare other j start end over : ℕ}
     (J : Joining before driver first next delay limit starts ends stages width left i l row₀ start₀ end₀ over₀ begun table row spare other j start end over) (h : j < stages) where
-  pub next-sizes : (j * width + width ≤ stages * width) × SeenIn delay starts ends j l
-  next-sizes = seen-sizes J.asks j J.above h
-
-  pub next-ahead : (stages ≤ length next) × (j < get_or next j 0)
-  next-ahead = (J.asks.linked.nexts, (next-driven J.asks j J.above h (J.driven h)).low)
+  pub next-ahead : j < get_or next j 0
+  next-ahead = (next-driven J.asks j J.above h (J.driven h)).low
 
   module _ {b s e d : ℕ} (W : Seen delay starts ends (j * width) left j l b s e d) where
     pub merge_in : MergeIn table row start end over b s e d spare left
@@ -360,8 +324,3 @@ module _ {before : List ℤ} {driver first next delay : List ℕ} {limit : List 
               (M.band asked (λ t. g t + asked_of driver delay i l f t j) (λ t. f j (t +ℤ pos (on_layer delay j l))) (J.band asked below f g U E)
               (seen-band I asked below f O j J.above h (J.driven h) W)));
         })
-
-    pub first_fits : start + s ≤ (stages + 2) * width
-    first_fits =
-        let two : 2 * width ≤ (stages + 2) * width = mul-le-mul_right width (omega arith) in
-        omega (arith, J.order, J.fits, J.asks.left-most, (J.asks.bands j J.above h).order, W.start_is)

@@ -7,6 +7,10 @@ use Rattle.rules.specs.Bytes.{max_layers}
 use Rattle.oracle.specs.Band.{Band, LimitOn}
 use Rattle.fanout.specs.Clauses.{Linked}
 use Rattle.slices.specs.Laid.{on_layer, limit_on, max_delay, max_entry}
+use Rattle.slices.specs.declared.Tree.{Tree}
+use Rattle.slices.specs.declared.Links.{Links}
+use Rattle.slices.specs.declared.Bands.{Bands}
+use Rattle.bands.specs.declared.Part.{Part}
 use Rattle.bands.specs.Entries.{row_at, over_delay, KeptOutside, merged_low, InRange, BandIn}
 
 -- Every time asked is `last` at most.
@@ -55,6 +59,11 @@ pub record BranchesIn (table : List ℤ) (driver first next delay : List ℕ) (l
   pub limit_range : InRange max_entry (limit_on limit i l)
   pub bands : (j : ℕ) → i < j → j < stages → BandOf table starts ends width j
 
+-- The same of the structs.
+abbrev pub BranchesOf : List ℤ → Tree → Links → Bands → (width left i l : ℕ) → Type 0
+BranchesOf table tree links bands width left i l =
+    BranchesIn table tree.driver.now links.first.now links.next.now tree.delay.now tree.limit.now bands.starts.now bands.ends.now tree.stages width left i l
+
 -- What the stages that stage i drives ask together at time t, each by its function.
 abbrev pub driven_ask : (driver delay : List ℕ) (stages i l : ℕ) → (ℕ → ℤ → ℕ) → ℤ → ℕ
 driven_ask driver delay stages i l f t =
@@ -78,3 +87,9 @@ pub record Joined (before after : List ℤ) (driver delay : List ℕ) (limit : L
   pub band : (asked : ℤ → Bool) (below : ℕ → ℤ → Bool) (f : ℕ → ℤ → ℕ) (g : ℤ → ℕ) → UpTo last asked → Below asked below f before driver delay starts ends stages width i l
       → LimitOn asked (left - 1) (limit_on limit i l) g
       → Band asked (left - 1) (over_delay after row over) start end (λ t. g t + driven_ask driver delay stages i l f t)
+
+-- The same of the structs.
+abbrev pub JoinedOf : (before after : List ℤ) → Tree → Bands → (width left i l : ℕ) → ℤ → Part → Type 0
+JoinedOf before after tree bands width left i l last part =
+    Joined before after tree.driver.now tree.delay.now tree.limit.now bands.starts.now bands.ends.now tree.stages width left i l last
+    part.row part.start part.end part.delay

@@ -18,10 +18,8 @@ fn put_row(s: u64, out: &mut [u8], at: usize) -> usize
     ensures upper_bound { result ≤ at + max_row }
 {
     let mut next = put_number(entry(s, 1), out, at);
-    let mut q: u64 = 1;
-    while q < rules::CHART_SHARES {
+    for q in 1..rules::CHART_SHARES {
         next = put_field(b" ", entry(s, q + 1), out, next);
-        q += 1;
     }
     next
 }
@@ -36,11 +34,9 @@ pub fn write_chart(out: &mut [u8]) -> usize
     ensures numbers { numbers_in (take result out.new) ≡ table_rows }
 {
     let mut next = put_row(1, out, 0);
-    let mut s: u64 = 1;
-    while s < rules::MAX_STAGES as u64 {
+    for s in 1..rules::MAX_STAGES as u64 {
         next = put(b"\n", out, next);
         next = put_row(s + 1, out, next);
-        s += 1;
     }
     put(b"\n", out, next)
 }

@@ -24,11 +24,7 @@ module _ {w : List ℕ} {nodes layers : ℕ} (H : Held w nodes layers) {stage be
   inside : j ≤ length (net_in w).nodes
   inside = omega (arith, H.nodes-are)
 
-  -- and the tables have a row for it.
-  pub node_in : j < max_nodes + 1
-  node_in = omega (arith, inside, (held-accepted H).few-nodes)
-
-  -- There is room for the costs of its edge,
+  -- there is room for the costs of its edge,
   pub room-here : Room (net_in w) j (get_or stage j 0) layers costs
   room-here = room (held-accepted H) P inside H.layers-are (S.stage_is j P.some inside)
 
@@ -39,8 +35,6 @@ module _ {w : List ℕ} {nodes layers : ℕ} (H : Held w nodes layers) {stage be
 
 -- A turn of the sum over the edges under plan x.
 pub record CostTurn (w stage x : List ℕ) (layers j : ℕ) : Type 0 where
-  pub node_in : j < max_nodes + 1
-  pub in_stages : j < length stage
   pub stage_in : get_or stage j 0 < length x
   pub layer_in_lem : get_or x (get_or stage j 0) 0 < layers
   pub cost_in_lem : edge_cost (net_in w) (get_or x (get_or stage j 0) 0) j ≤ max_cost
@@ -57,8 +51,6 @@ cost-turn {w} {nodes} {layers} H {stage} S {x} F {j} a b =
     let t : get_or stage j 0 < stages (net_in w) = omega (arith, stage-below A j a inside) in
     let q : j + 1 - 1 ≡ j = omega arith in
     record {
-      node_in = omega (arith, A.few-nodes);
-      in_stages = omega (arith, A.few-nodes, S.stage-long);
       stage_in = omega (arith, F.sized);
       layer_in_lem = omega (arith, F.layered (get_or stage j 0) t, H.layers-are);
       cost_in_lem = edge-cost_in A (get_or x (get_or stage j 0) 0) j;

@@ -82,15 +82,11 @@ delay_on n w table delay gate len kind l i j c =
 abbrev pub via_added : Net → ℕ → List ℕ → ℕ → ℕ → ℕ → ℕ → ℕ
 via_added n w delay l pin j c = entry w delay j c + 2 * (layer n (l + c)).via_res * pin
 
--- What the code that pays the via at node j has in hand, i being the parent of j: numbers in their bounds, and for every node up to j the stage of the wire
--- below it, whose columns stand for layers that there are.
-pub record ViaIn (n : Net) (below first : List ℕ) (w : ℕ) (delay : List ℕ) (pin i j : ℕ) : Type 0 where
-  pub parent-lower : i < j
+-- What the code that pays the via at node j has in hand: numbers in their bounds, and columns that stand for layers that there are, from layer l on.
+pub record ViaIn (n : Net) (w : ℕ) (delay : List ℕ) (pin l j : ℕ) : Type 0 where
   pub pin_in : pin ≤ max_input_cap
   pub row : RowMost w delay j half_range
-  pub below-long : length below ≡ max_nodes + 1
-  pub first_in : (m : ℕ) → m ≤ j → get_or below m 0 < length first
-  pub columns_in : (m : ℕ) → m ≤ j → on first (get_or below m 0) + w ≤ layer_count n
+  pub columns_in : l + w ≤ layer_count n
 
 module _ {n : Net} (A : Accepted n) where
   -- The delay to a node is the delay to the upper end of its edge, the edge delay and the via.
@@ -132,7 +128,7 @@ delaying_end D h = record { each = λ j c a b d. D.each j c a (omega arith) d; l
 
 -- What a turn at node j may rely on, l being the first layer of its stage and `gate` what drives the wire below its parent, and what it leaves. First the
 -- delay but for the via is set (`delay'`), then the via is paid (`delay''`), if there is anything to pay.
-pub record DelayTurn (n : Net) (below first : List ℕ) (w : ℕ) (table delay : List ℕ) (gate : Gate) (l j : ℕ) : Type 0 where
+pub record DelayTurn (n : Net) (first : List ℕ) (w : ℕ) (table delay : List ℕ) (gate : Gate) (l j : ℕ) : Type 0 where
   pub parent-lower : (at n j).parent < j
   pub gate_in : GateIn gate
   pub parent_row : RowMost w table (at n j).parent max_load
@@ -140,10 +136,10 @@ pub record DelayTurn (n : Net) (below first : List ℕ) (w : ℕ) (table delay :
   pub own_row : NodeRow w delay j
   pub edge : EdgeIn n w table (at n j).len (at n j).kind l j
   pub via : {delay' : List ℕ} {pin : ℕ} → RowSet 0 w delay delay' j w (delay_on n w table delay gate (at n j).len (at n j).kind l (at n j).parent j)
-      → pin ≡ input_cap (at n j).kind → ViaIn n below first w delay' pin (at n j).parent j
+      → pin ≡ input_cap (at n j).kind → ViaIn n w delay' pin l j
   pub onward : {delay' delay'' : List ℕ} {pin : ℕ}
       → RowSet 0 w delay delay' j w (delay_on n w table delay gate (at n j).len (at n j).kind l (at n j).parent j)
-      → pin ≡ input_cap (at n j).kind → RowSet 0 w delay' delay'' j w (via_added n w delay' (on first (get_or below (at n j).parent 0)) pin j)
+      → pin ≡ input_cap (at n j).kind → RowSet 0 w delay' delay'' j w (via_added n w delay' l pin j)
       → Delaying n first w delay'' (j + 1)
   pub onward_bare : {delay' : List ℕ}
       → RowSet 0 w delay delay' j w (delay_on n w table delay gate (at n j).len (at n j).kind l (at n j).parent j)
@@ -237,26 +233,21 @@ module _ {n : Net} (A : Accepted n) {below first : List ℕ} {w : ℕ} {table de
       unfolding terminal_via
       via-is c = rw is-pin refl
 
-      via-row : ViaIn n below first w delay' pin p j
+      via-row : ViaIn n w delay' pin l j
       via-row = record {
-        parent-lower = lower;
         pin_in = rw is-pin (input_cap_in A j);
         row = record { row = record { row_in = own.row_in; long = omega (arith, F.long, D.long) }; each = low };
-        below-long = S.below-long;
-        first_in = S.first_in;
-        columns_in = S.columns_in;
+        columns_in = omega (arith, e, ap (on first) S.stage_is, S.columns_in p (omega (arith, lower)));
       }
 
-      paid : {delay'' : List ℕ} → RowSet 0 w delay' delay'' j w (via_added n w delay' (on first (get_or below p 0)) pin j) → Delaying n first w delay'' (j + 1)
+      paid : {delay'' : List ℕ} → RowSet 0 w delay' delay'' j w (via_added n w delay' l pin j) → Delaying n first w delay'' (j + 1)
       paid G =
-          let same : on first (get_or below p 0) ≡ l = ap (on first) S.stage_is ∙ sym e in
-          passed (G.long ∙ F.long) (λ i c d ne. row_kept G i c d ne ∙ row_kept F i c d ne) (λ c d.
-          rw same at (G.set_to c d) ∙ rw (via-is c) (with_via c d))
+          passed (G.long ∙ F.long) (λ i c d ne. row_kept G i c d ne ∙ row_kept F i c d ne) (λ c d. G.set_to c d ∙ rw (via-is c) (with_via c d))
 
     unpaid : ((c : ℕ) → terminal_via n (l + c) j ≡ 0) → Delaying n first w delay' (j + 1)
     unpaid none = passed F.long (λ i c d ne. row_kept F i c d ne) (λ c d. omega (arith, with_via c d, none c))
 
-  pub delay-turn : DelayTurn n below first w table delay gate l j
+  pub delay-turn : DelayTurn n first w table delay gate l j
   delay-turn = record {
     parent-lower = lower;
     gate_in = gate_fine;

@@ -2,15 +2,13 @@
 // rows and columns: judging has one column, the plan's layer, and planning one for each layer.
 #![tactic(auto)]
 
-ghost use Rattle.std.specs.Prelude.{◌≡◌, false, List, ℕ, ◌+◌, ◌*◌, ◌≤◌, ◌<◌, length, get_or, if◌then◌else◌};
-ghost use Rattle.rules.specs.Tree.{on};
+ghost use Rattle.std.specs.Prelude.{◌≡◌, false, List, ℕ, ◌+◌, ◌*◌, ◌≤◌, ◌<◌, length, if◌then◌else◌};
 ghost use Rattle.rules.specs.Bytes.{max_via_res, max_gate_res, max_intrinsic, max_layers, max_nodes};
 ghost use Rattle.facts.specs.Layers.{NoVias};
 ghost use Rattle.facts.specs.Ranges.{max_edge_res, max_edge_cap};
 ghost use Rattle.facts.specs.Loads.{max_load};
 ghost use Rattle.facts.specs.Fits.{half_range};
-ghost use Rattle.words.specs.Words.{net_in};
-ghost use Rattle.words.specs.Held.{Held};
+ghost use Rattle.words.specs.Net.{net_of};
 ghost use Rattle.tree.specs.Staged.{Staged};
 ghost use Rattle.tree.specs.Plans.{Fitting};
 ghost use Rattle.tree.specs.declared.Gate.TheVariants.{Wire};
@@ -23,8 +21,8 @@ ghost use Rattle.delays.specs.Delayed.{Delayed, PlanDelays, LayerDelays, GateIn,
 
 use loads::{NODE_ROWS, loads, lower_load};
 use rules::Kind;
-use tree::{Gate, gate_at, wide};
-use words::{layer_count, node_at, unit_cap, unit_res, via_res};
+use tree::{Gate, gate_at};
+use words::{Net, Node};
 
 // Gate delay: 2 × gate resistance × load at the root, plus intrinsic delay, and 2 × via resistance × load for the via there.
 fn gate_delay(res: u64, via: u64, load: u64, intrinsic: u64) -> u64
@@ -56,145 +54,117 @@ fn edge_delay(res: u64, cap: u64, lower: u64) -> u64
     res * (cap + 2 * lower)
 }
 
-// The delay to node j, at the end of an edge of length `len` from `parent`, in each column, but for the via at j; column 0 stands for `layer`.
-fn set_delays(
-    words: &[u32],
-    columns: usize,
-    gate: Gate,
-    len: u64,
-    kind: Kind,
-    layer: usize,
-    parent: usize,
+// An edge as a turn has it in hand: the node at its lower end and that node's number, what drives the wire at its upper end, and the layer that column 0 stands
+// for.
+#[derive(Clone, Copy)]
+struct Edge {
+    node: Node,
     j: usize,
-    load: &[u32],
-    delay: &mut [u64],
-)
-    requires { ((nodes : ℕ) × (layers : ℕ) × Held words.now nodes layers × (layer + columns ≤ layers)) ×
-        GateIn gate × RowMost columns load.now parent max_load × (gate ≡ Wire → RowMost columns delay.old parent half_range) × (parent < j) ×
-        NodeRow columns delay.old j × EdgeIn (net_in words.now) columns load.now len kind layer j }
-    ensures { RowSet 0 columns delay.old delay.new j columns
-        (delay_on (net_in words.now) columns load.now delay.old gate len kind layer parent j) }
+    gate: Gate,
+    layer: usize,
+}
+
+// The delay to the node at the end of an edge in each column, but for the via at it.
+fn set_delays(net: &Net<'_>, columns: usize, edge: Edge, load: &[u32], delay: &mut [u64])
+    requires { (edge.layer + columns ≤ net.now.layers) × GateIn edge.gate × RowMost columns load.now edge.node.parent max_load ×
+        (edge.gate ≡ Wire → RowMost columns delay.old edge.node.parent half_range) × (edge.node.parent < edge.j) ×
+        NodeRow columns delay.old edge.j × EdgeIn (net_of net.now) columns load.now edge.node.len edge.node.kind edge.layer edge.j }
+    ensures { RowSet 0 columns delay.old delay.new edge.j columns
+        (delay_on (net_of net.now) columns load.now delay.old edge.gate edge.node.len edge.node.kind edge.layer edge.node.parent edge.j) }
 {
-    let mut c: usize = 0;
-    while c < columns {
+    let parent = edge.node.parent;
+    for c in 0..columns {
+        let layer = edge.layer + c;
         let start = start_of(
-            gate,
-            via_res(words, layer + c),
-            load[parent * columns + c] as u64,
+            edge.gate,
+            net.via_res(layer),
+            u64::from(load[parent * columns + c]),
             delay[parent * columns + c],
         );
-        let res = len * unit_res(words, layer + c);
-        let cap = len * unit_cap(words, layer + c);
-        let lower = lower_load(kind, load[j * columns + c] as u64);
-        delay[j * columns + c] = start + edge_delay(res, cap, lower);
-        c += 1;
+        let res = edge.node.len * net.unit_res(layer);
+        let cap = edge.node.len * net.unit_cap(layer);
+        let lower = lower_load(edge.node.kind, u64::from(load[edge.j * columns + c]));
+        delay[edge.j * columns + c] = start + edge_delay(res, cap, lower);
     }
 }
 
 // Whether some layer has a via. A file of tag 1 has none, and then nothing is paid at any terminal.
-fn has_vias(words: &[u32]) -> bool
-    requires { (nodes : ℕ) × (layers : ℕ) × Held words.now nodes layers }
-    ensures { result ≡ false → NoVias (net_in words.now) }
+fn has_vias(net: &Net<'_>) -> bool
+    ensures { result ≡ false → NoVias (net_of net.now) }
 {
-    let layers = layer_count(words);
-    let mut l: usize = 0;
-    while l < layers {
-        if 0 < via_res(words, l) {
-            return true;
-        }
-        l += 1;
-    }
-    false
+    (0..net.layers).any(|l| 0 < net.via_res(l))
 }
 
 // The input capacitance that a via is paid for at a node of this kind, given whether there are vias: none at a Steiner point.
+// Kept: no twin of `loads::lower_load`, which it calls.
 fn paid_cap(kind: Kind, vias: bool) -> u64
     ensures { result ≡ (if vias then lower_of kind 0 else 0) }
 {
-    if vias {
-        return lower_load(kind, 0);
-    }
-    0
+    if vias { lower_load(kind, 0) } else { 0 }
 }
 
 // The via at terminal j, whose pin has this input capacitance: it is paid on the way to j alone, by the layer of the stage that ends there, which is that of
-// the wire below its parent.
-fn add_vias(
-    words: &[u32],
-    below: &[usize],
-    first: &[u8],
-    columns: usize,
-    pin: u64,
-    parent: usize,
-    j: usize,
-    delay: &mut [u64],
-)
-    requires { ((nodes : ℕ) × (layers : ℕ) × Held words.now nodes layers) × ViaIn (net_in words.now) below.now first.now columns delay.old pin parent j }
-    ensures { RowSet 0 columns delay.old delay.new j columns
-        (via_added (net_in words.now) columns delay.old (on first.now (get_or below.now parent 0)) pin j) }
+// the wire below its parent; column 0 stands for `layer`.
+fn add_vias(net: &Net<'_>, columns: usize, layer: usize, pin: u64, j: usize, delay: &mut [u64])
+    requires { ViaIn (net_of net.now) columns delay.old pin layer j }
+    ensures { RowSet 0 columns delay.old delay.new j columns (via_added (net_of net.now) columns delay.old layer pin j) }
 {
-    let above = wide(first[below[parent]]);
-    let mut c: usize = 0;
-    while c < columns {
-        let via = 2 * via_res(words, above + c) * pin;
-        delay[j * columns + c] += via;
-        c += 1;
+    for c in 0..columns {
+        delay[j * columns + c] += 2 * net.via_res(layer + c) * pin;
     }
 }
 
 // The delay from the gate input of its stage to each node in each column, from the first node to the last.
 fn delays(
-    words: &[u32],
-    nodes: usize,
+    net: &Net<'_>,
     below: &[usize],
     first: &[u8],
     columns: usize,
     load: &[u32],
     delay: &mut [u64],
 )
-    requires { ((layers : ℕ) × Held words.now nodes layers) × ((stage : List ℕ) × Staged (net_in words.now) stage below.now) ×
-        Columns (net_in words.now) first.now columns × Loaded (net_in words.now) first.now columns load.now ×
+    requires { ((stage : List ℕ) × Staged (net_of net.now) stage below.now) ×
+        Columns (net_of net.now) first.now columns × Loaded (net_of net.now) first.now columns load.now ×
         ((max_nodes + 1) * columns ≤ length delay.old) }
-    ensures { Delayed (net_in words.now) first.now columns delay.new }
+    ensures { Delayed (net_of net.now) first.now columns delay.new }
 {
-    let vias = has_vias(words);
-    let mut j: usize = 1;
-    while j <= nodes {
-        let node = node_at(words, j);
-        let len = node.len;
-        let kind = node.kind;
-        let parent = node.parent;
-        let gate = gate_at(words, parent);
-        let layer = wide(first[below[parent]]);
-        set_delays(
-            words, columns, gate, len, kind, layer, parent, j, load, delay,
-        );
-        let pin = paid_cap(kind, vias);
+    let vias = has_vias(net);
+    for j in 1..=net.nodes {
+        let node = net.node(j);
+        let gate = gate_at(net, node.parent);
+        let layer = usize::from(first[below[node.parent]]);
+        let edge = Edge {
+            node,
+            j,
+            gate,
+            layer,
+        };
+        set_delays(net, columns, edge, load, delay);
+        let pin = paid_cap(node.kind, vias);
         if 0 < pin {
-            add_vias(words, below, first, columns, pin, parent, j, delay);
+            add_vias(net, columns, layer, pin, j, delay);
         }
-        j += 1;
     }
 }
 
 // The delay to each node under a plan: entry j becomes that of node j.
-pub fn plan_delays(words: &[u32], nodes: usize, below: &[usize], plan: &[u8], delay: &mut [u64])
-    requires { ((layers : ℕ) × Held words.now nodes layers) × ((stage : List ℕ) × Staged (net_in words.now) stage below.now) ×
-        Fitting (net_in words.now) plan.now × (length delay.old ≡ max_nodes + 1) }
-    ensures { PlanDelays (net_in words.now) plan.now delay.new }
+pub fn plan_delays(net: &Net<'_>, below: &[usize], plan: &[u8], delay: &mut [u64])
+    requires { ((stage : List ℕ) × Staged (net_of net.now) stage below.now) ×
+        Fitting (net_of net.now) plan.now × (length delay.old ≡ max_nodes + 1) }
+    ensures { PlanDelays (net_of net.now) plan.now delay.new }
 {
     let mut load = [0u32; NODE_ROWS];
-    loads(words, nodes, below, plan, 1, &mut load);
-    delays(words, nodes, below, plan, 1, &load, delay);
+    loads(net, below, plan, 1, &mut load);
+    delays(net, below, plan, 1, &load, delay);
 }
 
 // The delay to each node on each layer: entry j * layers + l becomes that of node j on layer l.
-pub fn layer_delays(words: &[u32], layers: usize, nodes: usize, below: &[usize], delay: &mut [u64])
-    requires { Held words.now nodes layers × ((stage : List ℕ) × Staged (net_in words.now) stage below.now) × (length delay.old ≡ (max_nodes + 1) * max_layers) }
-    ensures { LayerDelays (net_in words.now) layers delay.new }
+pub fn layer_delays(net: &Net<'_>, below: &[usize], delay: &mut [u64])
+    requires { ((stage : List ℕ) × Staged (net_of net.now) stage below.now) × (length delay.old ≡ (max_nodes + 1) * max_layers) }
+    ensures { LayerDelays (net_of net.now) net.now.layers delay.new }
 {
     let first = [0u8; rules::MAX_STAGES];
     let mut load = [0u32; NODE_ROWS * rules::MAX_LAYERS];
-    loads(words, nodes, below, &first, layers, &mut load);
-    delays(words, nodes, below, &first, layers, &load, delay);
+    loads(net, below, &first, net.layers, &mut load);
+    delays(net, below, &first, net.layers, &load, delay);
 }

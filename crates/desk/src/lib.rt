@@ -7,7 +7,7 @@ ghost use Rattle.desk.specs.OnDesk.{open_on, read_on};
 
 use desk_record::{Desk, Opened, is_readable, open_with, takes};
 use judging::{check, judge};
-use rules::{Checked, Judged};
+use rules::{Checked, Judged, Refusal};
 use timing::judging_refused;
 
 // Opening: 15, then 1 to 6.
@@ -16,7 +16,7 @@ pub fn open_value(v: Desk, bytes: &[u8]) -> Opened
 {
     if !takes(bytes.len()) {
         let long = Checked {
-            refusal: 15,
+            refusal: u8::from(Refusal::TooLong),
             nodes: 0,
             stages: 0,
             layers: 0,
@@ -35,13 +35,11 @@ pub fn read_value(v: Desk) -> Judged
     ensures { result ≡ read_on v }
 {
     if !is_readable(v.used, v.stages) {
-        return judging_refused(16);
+        return judging_refused(u8::from(Refusal::NeverOpened));
     }
-    let used = v.used as usize;
-    let stages = v.stages as usize;
     let net = v.net;
     let plan = v.plan;
-    let bytes = &net[..used];
-    let layers = &plan[..stages];
+    let bytes = &net[..v.used as usize];
+    let layers = &plan[..v.stages as usize];
     judge(bytes, layers)
 }

@@ -2,11 +2,13 @@
 // the answer. It answers for every content of the record; which refusal comes first is settled in one place, `change_refusal`.
 #![tactic(auto)]
 
-ghost use Rattle.std.specs.Prelude.{◌≡◌, ◌&&◌, ◌++◌, ◌≤◌, leb, ltb, length, get_or, drop};
+ghost use Rattle.std.specs.Prelude.{◌≡◌, ◌&&◌, ◌≤◌, leb, ltb, length, get_or, MatchOption};
+ghost use Rattle.laws.specs.Basic.{bit};
+ghost use Rattle.rules.specs.Refusals.{number_of};
 ghost use Rattle.rules.specs.Desk.{max_desk_net};
 ghost use Rattle.desk_record.specs.OnRecord.{desk_size, change_refusal, is_locked, mark_on, set_on, lock_on, unlock_on, open_with, is_readable};
 
-use rules::Checked;
+use rules::{Checked, Refusal};
 
 // A desk: the bytes of its net and how many they are, the counts of its stages and layers, the layer of each stage, and 1 for each stage that is locked.
 // A count of 0 stages says that it was never opened, so that cleared memory is a fresh desk. Numbers only: every content is a record.
@@ -25,6 +27,7 @@ pub struct Desk {
 #[derive(Clone, Copy)]
 pub struct Changed {
     pub desk: Desk,
+    // Kept: the desk call hands this number to C.
     pub answer: u8,
 }
 
@@ -46,41 +49,44 @@ pub fn desk_size() -> u64
 fn below(x: u64, count: u64, places: u64) -> bool
     ensures { result ≡ (ltb x count && ltb x places) }
 {
-    if x < count {
-        return x < places;
-    }
-    false
+    x < count && x < places
 }
 
 // Whether a stage is locked; one that has no place is not.
 fn is_locked(locks: [u8; rules::MAX_STAGES], stage: u64) -> bool
     ensures { result ≡ is_locked (get_or locks stage 0) }
 {
-    if stage >= rules::MAX_STAGES as u64 {
-        return false;
-    }
-    let t = stage as usize;
-    locks[t] != 0
+    stage < rules::MAX_STAGES as u64 && locks[stage as usize] != 0
 }
 
-// The number of a change: 16 for a desk never opened, then 7 for the stage, then 8 for the layer, then 17 for the lock; 0 if none of them is due.
+// Why a change is refused, if it is: 16 for a desk never opened, then 7 for the stage, then 8 for the layer, then 17 for the lock.
 #[tactic(auto, unfolding(crate::specs::OnRecord::change_refusal))]
-fn change_refusal(opened: bool, stage: bool, layer: bool, locked: bool) -> u8
-    ensures { result ≡ change_refusal opened stage layer locked }
+fn change_refusal(opened: bool, stage: bool, layer: bool, locked: bool) -> Option<Refusal>
+    ensures { MatchOption result (change_refusal opened stage layer locked ≡ 0) (λ why. number_of why ≡ change_refusal opened stage layer locked) }
 {
     if !opened {
-        return 16;
+        return Some(Refusal::NeverOpened);
     }
     if !stage {
-        return 7;
+        return Some(Refusal::WrongStages);
     }
     if !layer {
-        return 8;
+        return Some(Refusal::WrongLayer);
     }
     if locked {
-        return 17;
+        return Some(Refusal::Locked);
     }
-    0
+    None
+}
+
+// A refused change: its number, and the desk as it was.
+fn refused(v: Desk, why: Refusal) -> Changed
+    ensures { result ≡ record { desk = v; answer = number_of why } }
+{
+    Changed {
+        desk: v,
+        answer: u8::from(why),
+    }
 }
 
 // Setting: the stage is put on the layer, where no number is due.
@@ -89,51 +95,42 @@ pub fn set_value(v: Desk, stage: u64, layer: u64) -> Changed
 {
     let there = below(stage, v.stages, rules::MAX_STAGES as u64);
     let fits = below(layer, v.layers, rules::MAX_LAYERS as u64);
-    let locks = v.locks;
-    let locked = is_locked(locks, stage);
-    let refusal = change_refusal(v.stages != 0, there, fits, locked);
-    if refusal != 0 {
-        return Changed {
-            desk: v,
-            answer: refusal,
-        };
+    let locked = is_locked(v.locks, stage);
+    if let Some(why) = change_refusal(v.stages != 0, there, fits, locked) {
+        return refused(v, why);
     }
-    let t = stage as usize;
     let mut w = v;
-    w.plan[t] = layer as u8;
+    w.plan[stage as usize] = layer as u8;
     Changed { desk: w, answer: 0 }
 }
 
-// A lock put on a stage (1) or taken off it (0), where no number is due: no layer is named, and a lock is no hindrance.
-fn mark_value(v: Desk, stage: u64, lock: u8) -> Changed
-    ensures { result ≡ mark_on v stage lock }
+// A lock put on a stage or taken off it, where no number is due: no layer is named, and a lock is no hindrance.
+fn mark_value(v: Desk, stage: u64, lock: bool) -> Changed
+    ensures { result ≡ mark_on v stage (bit lock) }
 {
     let there = below(stage, v.stages, rules::MAX_STAGES as u64);
-    let refusal = change_refusal(v.stages != 0, there, true, false);
-    if refusal != 0 {
-        return Changed {
-            desk: v,
-            answer: refusal,
-        };
+    if let Some(why) = change_refusal(v.stages != 0, there, true, false) {
+        return refused(v, why);
     }
-    let t = stage as usize;
     let mut w = v;
-    w.locks[t] = lock;
+    w.locks[stage as usize] = u8::from(lock);
     Changed { desk: w, answer: 0 }
 }
 
 // Locking.
+// Kept: two names for `mark_value`: the C interface has a call for each.
 pub fn lock_value(v: Desk, stage: u64) -> Changed
     ensures { result ≡ lock_on v stage }
 {
-    mark_value(v, stage, 1)
+    mark_value(v, stage, true)
 }
 
 // Unlocking.
+// Kept: as `lock_value`.
 pub fn unlock_value(v: Desk, stage: u64) -> Changed
     ensures { result ≡ unlock_on v stage }
 {
-    mark_value(v, stage, 0)
+    mark_value(v, stage, false)
 }
 
 // Whether a desk takes a net of so many bytes; if not, the number is 15.
@@ -143,22 +140,9 @@ pub fn takes(bytes: usize) -> bool
     bytes <= rules::MAX_DESK_NET
 }
 
-// The bytes of a net put over the first of those that stood there.
-fn copy_in(old: [u8; rules::MAX_DESK_NET], bytes: &[u8]) -> [u8; rules::MAX_DESK_NET]
-    requires { length bytes.now ≤ max_desk_net }
-    ensures { result ≡ bytes.now ++ drop (length bytes.now) old }
-{
-    let mut net = old;
-    let n = bytes.len();
-    let mut i = 0;
-    while i < n {
-        net[i] = bytes[i];
-        i = i + 1;
-    }
-    net
-}
-
 // Opening with bytes that a desk takes, by what checking found in them: counts of 0 stages are a refusal, for a net has at least one, and keep the desk.
+// The bytes are put over the first of those that stood there.
+#[tactic(auto, unfolding(crate::specs::OnRecord::open_with))]
 pub fn open_with(v: Desk, bytes: &[u8], found: Checked) -> Opened
     requires { length bytes.now ≤ max_desk_net }
     ensures { result ≡ open_with v bytes.now found }
@@ -169,17 +153,15 @@ pub fn open_with(v: Desk, bytes: &[u8], found: Checked) -> Opened
             answer: found,
         };
     }
-    let n = bytes.len();
-    let old = v.net;
-    let net = copy_in(old, bytes);
-    let zeros = [0; rules::MAX_STAGES];
+    let mut net = v.net;
+    net[..bytes.len()].copy_from_slice(bytes);
     let mut w = v;
-    w.used = n as u64;
+    w.used = bytes.len() as u64;
     w.stages = found.stages;
     w.layers = found.layers;
     w.net = net;
-    w.plan = zeros;
-    w.locks = zeros;
+    w.plan = [0; rules::MAX_STAGES];
+    w.locks = [0; rules::MAX_STAGES];
     Opened {
         desk: w,
         answer: found,
@@ -187,14 +169,9 @@ pub fn open_with(v: Desk, bytes: &[u8], found: Checked) -> Opened
 }
 
 // Whether the counts of a desk may be those of an open one: stages, but no more than there are places for, and no more bytes than that.
+#[tactic(auto, unfolding(crate::specs::OnRecord::is_readable))]
 pub fn is_readable(used: u64, stages: u64) -> bool
     ensures { result ≡ is_readable used stages }
 {
-    if stages == 0 {
-        return false;
-    }
-    if stages > rules::MAX_STAGES as u64 {
-        return false;
-    }
-    used <= rules::MAX_DESK_NET as u64
+    stages != 0 && stages <= rules::MAX_STAGES as u64 && used <= rules::MAX_DESK_NET as u64
 }

@@ -5,7 +5,7 @@ use Prim.Native.Nat.{ℕ, ◌+◌, ◌≤◌, ◌<◌}
 use native.Mathlib.Omega.{arith}
 use lib.ListN.{length, get_or, set}
 use Rattle.rules.specs.Tree.{at, stages, stage_of, on}
-use Rattle.rules.specs.Bytes.{max_length, max_layers, max_nodes}
+use Rattle.rules.specs.Bytes.{max_length, max_layers}
 use Rattle.facts.specs.Stages.{stage-below}
 use Rattle.facts.specs.Block.{max_wire, max_block_wire}
 use Rattle.words.specs.Words.{net_in}
@@ -16,9 +16,7 @@ use Rattle.lengths.specs.Adding.{LengthsBefore, length-sum-low, lengths_more}
 
 -- The edge to node j, whose stage is on layer k.
 pub record LengthTurn (w below x was lengths : List ℕ) (nodes j k : ℕ) : Type 0 where
-  pub node_in : j < max_nodes + 1
   pub parent-lower : (at (net_in w) j).parent < j
-  pub table-long : length below ≡ max_nodes + 1
   pub stage_in : (i : ℕ) → i ≤ nodes → get_or below i 0 < length x
   pub layer_in_lem : k < length lengths
   pub sum_low : get_or lengths k 0 + (at (net_in w) j).len ≤ max_block_wire + max_wire + max_length
@@ -39,9 +37,7 @@ length-turn {w} {nodes} H {stage} {below} S {x} F {was} {lengths} long low {j} P
     let k : on x (get_or below p 0) ≡ on x (stage_of n j) = ap (on x) e in
     let layer : on x (get_or below p 0) < length lengths = omega (arith, F.layered (get_or below p 0) t, A.few-layers, P.long) in
     record {
-      node_in = omega (arith, A.few-nodes);
       parent-lower = lower;
-      table-long = S.below-long;
       stage_in = λ i b.
           let c : i ≤ length n.nodes = omega (arith, H.nodes-are) in
           omega (arith, S.below-is i c, wire-below A i c, F.sized);

@@ -1,10 +1,10 @@
 -- The layers of a plan put one after the other, a space before each.
 use mathlib.Core.Path.{◌≡◌}
 use mathlib.Core.List.{List, ◌++◌, map, map-append}
-use Prim.Native.Nat.{ℕ, ◌+◌, ◌≤◌, ◌<◌}
+use Prim.Native.Nat.{ℕ, ◌+◌, ◌<◌}
 use native.Mathlib.Numerals.{add-one}
 use lib.ListN.{length, take, get_or}
-use lib.Seq.{take-suc, take_all}
+use lib.Seq.{take-suc}
 use Rattle.rules.specs.Text.{space, decimal, number_field}
 use Rattle.rules.specs.Program.{layer_numbers}
 use Rattle.text.specs.Placing.{Placed}
@@ -20,8 +20,3 @@ layer-put plan i h first second = rw more (joined first second)
   where
     more : layer_numbers (take (i + 1) plan) ≡ layer_numbers (take i plan) ++ number_field space (get_or plan i 0)
     more = rw (add-one, take-suc plan i 0 h, map-append) (each_more space (map decimal (take i plan)) (decimal (get_or plan i 0)))
-
--- All layers are put.
-pub layers-put : (plan : List ℕ) (i : ℕ) {before after : List ℕ} {at next : ℕ} → length plan ≤ i
-    → Placed (layer_numbers (take i plan)) at before after next → Placed (layer_numbers plan) at before after next
-layers-put plan i h p = rw (take_all i plan h) at p

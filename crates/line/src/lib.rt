@@ -19,15 +19,14 @@ fn put_plan(plan: &[u8], out: &mut [u8], at: usize) -> usize
     ensures upper_bound { result ≤ at + 4 * length plan.now }
 {
     let mut next = at;
-    let mut i: usize = 0;
-    while i < plan.len() {
-        next = put_field(b" ", plan[i] as u64, out, next);
-        i += 1;
+    for layer in plan {
+        next = put_field(b" ", u64::from(*layer), out, next);
     }
     next
 }
 
 // Writes the line of an accepted net at the front of `out`: cost, g, slack and the layers in stage order. Answers its length.
+#[tactic(auto, using(text::proofs::Decimal::number_length))]
 pub fn plan_line(cost: u64, g: u64, slack: i64, plan: &[u8], out: &mut [u8]) -> usize
     requires { (length plan.now ≤ max_stages) × (max_line ≤ length out.old) }
     ensures value { result ≡ length (plan_line cost g slack plan.now) }
@@ -44,17 +43,20 @@ pub fn plan_line(cost: u64, g: u64, slack: i64, plan: &[u8], out: &mut [u8]) -> 
 }
 
 // Writes the line of a refusal at the front of `out`. Answers its length.
+// Kept: it takes any number, as its clause says; a narrower type would ask more of callers.
+#[tactic(auto, using(text::proofs::Decimal::number_length))]
 pub fn refused_line(r: u8, out: &mut [u8]) -> usize
     requires { max_line ≤ length out.old }
     ensures value { result ≡ length (refused_line r) }
     ensures out_after { out.new ≡ refused_line r ++ drop result out.old }
     ensures prefix_len { IsPrefixLen result out.new }
 {
-    let at = put_field(b"refused ", r as u64, out, 0);
+    let at = put_field(b"refused ", u64::from(r), out, 0);
     put(b"\n", out, at)
 }
 
 // Writes the line of the counts of a net at the front of `out`. Answers its length.
+#[tactic(auto, using(text::proofs::Decimal::number_length))]
 pub fn counts_line(nodes: u64, stages: u64, layers: u64, out: &mut [u8]) -> usize
     requires { max_line ≤ length out.old }
     ensures value { result ≡ length (counts_line nodes stages layers) }

@@ -7,8 +7,7 @@ ghost use Rattle.std.specs.Prelude.{◌≡◌, List, map, ℕ, ◌+◌, ◌≤�
 ghost use Rattle.laws.specs.Basic.{from, sum};
 ghost use Rattle.rules.specs.Tree.{stages, edges_of};
 ghost use Rattle.facts.specs.Loads.{max_load};
-ghost use Rattle.words.specs.Words.{net_in};
-ghost use Rattle.words.specs.Held.{Held};
+ghost use Rattle.words.specs.Net.{net_of};
 ghost use Rattle.tree.specs.Staged.{Staged};
 ghost use Rattle.slices.specs.Rows.{entry, RowSet};
 ghost use Rattle.loads.specs.Tables.{RowMost};
@@ -17,84 +16,59 @@ ghost use Rattle.loads.specs.Edges.{EdgeIn, lower_of, added_on};
 ghost use Rattle.loads.specs.Loaded.{Loaded, Unloaded};
 
 use rules::Kind;
-use tree::wide;
-use words::{node_at, unit_cap};
+use words::{Net, Node};
 
 // The rows of a table by node: the driver's and one for each node.
 pub const NODE_ROWS: usize = rules::MAX_NODES + 1;
 
 // The load at the lower end of an edge to a node of this kind: what is below a Steiner point, a terminal's input capacitance.
+// Kept: no twin of `delays::paid_cap`, which calls it.
 pub fn lower_load(kind: Kind, below: u64) -> u64
     ensures { result ≡ lower_of kind below }
 {
     match kind {
         Kind::Steiner => below,
-        Kind::Buffer {
-            input_cap,
-            gate_res: _,
-            intrinsic: _,
-        } => input_cap,
-        Kind::Sink {
-            input_cap,
-            required: _,
-        } => input_cap,
+        Kind::Buffer { input_cap, .. } | Kind::Sink { input_cap, .. } => input_cap,
     }
 }
 
-// The edge from `parent` to j, of length `len`, adds its wire and the load at its lower end to the load at `parent`, in each column; column 0 stands for
-// `layer`.
-fn add_loads(
-    words: &[u32],
-    columns: usize,
-    len: u64,
-    kind: Kind,
-    layer: usize,
-    j: usize,
-    parent: usize,
-    load: &mut [u32],
-)
-    requires { ((nodes : ℕ) × (layers : ℕ) × Held words.now nodes layers × (layer + columns ≤ layers)) ×
-        EdgeIn (net_in words.now) columns load.old len kind layer j × RowMost columns load.old parent max_load × (parent < j) }
-    ensures { RowSet 0 columns load.old load.new parent columns
-        (λ c. entry columns load.old parent c + added_on (net_in words.now) columns load.old len kind layer j c) }
+// The edge to node j adds its wire and the load at its lower end to the load at its parent, in each column; column 0 stands for `layer`.
+fn add_loads(net: &Net<'_>, columns: usize, node: Node, layer: usize, j: usize, load: &mut [u32])
+    requires { (layer + columns ≤ net.now.layers) × EdgeIn (net_of net.now) columns load.old node.len node.kind layer j ×
+        RowMost columns load.old node.parent max_load × (node.parent < j) }
+    ensures { RowSet 0 columns load.old load.new node.parent columns
+        (λ c. entry columns load.old node.parent c + added_on (net_of net.now) columns load.old node.len node.kind layer j c) }
 {
-    let mut c: usize = 0;
-    while c < columns {
-        let cap = len * unit_cap(words, layer + c);
-        let lower = lower_load(kind, load[j * columns + c] as u64);
-        let sum = load[parent * columns + c] as u64 + cap + lower;
-        load[parent * columns + c] = sum as u32;
-        c += 1;
+    for c in 0..columns {
+        let cap = node.len * net.unit_cap(layer + c);
+        let lower = lower_load(node.kind, u64::from(load[j * columns + c]));
+        let sum = u64::from(load[node.parent * columns + c]) + cap + lower;
+        load[node.parent * columns + c] = sum as u32;
     }
 }
 
 // The load at each node in each column, and the number of edges of each stage, by one walk from the last node to the first: each edge adds to the load at its
 // upper end and is counted to the stage of the wire below that end. No list of a stage's edges is made.
 pub fn loads(
-    words: &[u32],
-    nodes: usize,
+    net: &Net<'_>,
     below: &[usize],
     first: &[u8],
     columns: usize,
     load: &mut [u32],
 ) -> [usize; rules::MAX_STAGES]
-    requires { ((layers : ℕ) × Held words.now nodes layers) × ((stage : List ℕ) × Staged (net_in words.now) stage below.now) ×
-        Columns (net_in words.now) first.now columns × Unloaded columns load.old }
-    ensures { Loaded (net_in words.now) first.now columns load.new ×
-        ((t : ℕ) → get_or result t 0 ≡ length (edges_of (net_in words.now) t)) ×
-        (sum (map (λ t. get_or result t 0) (from 0 (stages (net_in words.now)))) ≡ nodes) }
+    requires { ((stage : List ℕ) × Staged (net_of net.now) stage below.now) ×
+        Columns (net_of net.now) first.now columns × Unloaded columns load.old }
+    ensures { Loaded (net_of net.now) first.now columns load.new ×
+        ((t : ℕ) → get_or result t 0 ≡ length (edges_of (net_of net.now) t)) ×
+        (sum (map (λ t. get_or result t 0) (from 0 (stages (net_of net.now)))) ≡ net.now.nodes) }
 {
     let mut edges = [0usize; rules::MAX_STAGES];
-    let mut j = nodes;
-    while 0 < j {
-        let node = node_at(words, j);
-        let len = node.len;
-        let kind = node.kind;
-        let parent = node.parent;
-        let layer = wide(first[below[parent]]);
-        add_loads(words, columns, len, kind, layer, j, parent, load);
-        edges[below[parent]] += 1;
-        j -= 1;
+    for j in (1..=net.nodes).rev() {
+        let node = net.node(j);
+        let stage = below[node.parent];
+        let layer = usize::from(first[stage]);
+        add_loads(net, columns, node, layer, j, load);
+        edges[stage] += 1;
     }
     edges
 }

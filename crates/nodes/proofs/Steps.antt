@@ -1,35 +1,33 @@
 -- One node field: what the tests of 4, 3 and 5 and the whole step give at the values that the code has in hand.
-use Rattle.std.specs.Prelude.{if◌then◌else◌}
+use Rattle.std.specs.Prelude.{if◌then◌else◌, Ok, Err}
+use Rattle.rules.specs.declared.Refusal.{Refusal}
+use Rattle.rules.specs.declared.Refusal.TheVariants as refusal
+use Rattle.rules.specs.Refusals.{number_of}
 use mathlib.Core.Path.{◌≡◌, refl, ap, sym, ◌∙◌, subst}
 use mathlib.Core.Bool.{Bool, true, false, ◌&&◌}
 use mathlib.Core.List.{List}
-use Prim.Native.Nat.{ℕ, ◌+◌, ◌*◌, ◌<◌, ◌≤◌, ◌-◌}
+use Prim.Native.Nat.{ℕ, ◌+◌, ◌*◌, ◌<◌, ◌≤◌}
 use native.Mathlib.Omega.{arith}
 use lib.Dec.{leb, ltb, eqb}
-use lib.ListN.{length, get_or}
+use lib.ListN.{length}
 use mathlib.Core.Logic.{◌⊎◌, inl, inr}
-use borrow.Author.Tests.{lt-ltb, le-ltb, le-leb, lt-leb, eq-eqb, ne_eqb, eqb-true, ltb-true}
+use borrow.Author.Tests.{ne_eqb, eqb-true, ltb-true}
 use Rattle.laws.specs.Booleans.{and_left, and_right, same_or}
 use Rattle.rules.specs.Tree.{is_buffer}
-use Rattle.rules.specs.Bytes.{steiner_tag, buffer_tag, max_nodes, max_stages, max_length, max_children}
+use Rattle.rules.specs.Bytes.{steiner_tag, buffer_tag, max_nodes, max_length}
 use Rattle.rules.specs.Bytes.{Field, costs_at, kind_size, kind_at, node_at, is_kind, is_node, next, due_node}
 use Rattle.rules.specs.Reading.{Answer, accept, refuse, ◌>>=◌, ◌>>◌, ◌unless◌, field}
 use Rattle.words.specs.declared.Node.{Node}
 use Rattle.words.specs.Words.{node_row, row_for, Rows, record_in, node_in}
 use Rattle.words.specs.Puts.{record_at, NodePut}
 use Rattle.nodes.specs.Steps.{room_for, ranges_of, parent_for, step_field, step_at, taken_at, Put, StepRead}
-use Rattle.nodes.specs.declared.Step.TheVariants as step
 use Rattle.facts.specs.Answers.{not-refused, accept_injective, then_accepted, unless_accepted}
 use Rattle.fields.proofs.Laws.{field-inside}
 
--- the row of a node is not the driver's, and it is in the array
+-- the row of a node is not the driver's
 pub row_first : (keep : Bool) (count : ℕ) → 1 ≤ row_for keep count
 row_first true count = omega arith
 row_first false count = omega arith
-
-pub row_fits : (keep : Bool) {w : List ℕ} {count row : ℕ} → Rows keep w → count < max_nodes → row ≡ row_for keep count → node_row (row + 1) ≤ length w
-row_fits true R h e = omega (arith, R.all refl)
-row_fits false R h e = omega (arith, R.some)
 
 -- the node of a field in its row
 pub put-node : {bs : List ℕ} {L : ℕ} {f : Field} {old new : List ℕ} {j : ℕ} → NodePut bs L f.tag f.start old new j true → Put bs L f old new j
@@ -41,23 +39,15 @@ put-node {bs} {L} {f} N = record {
   lower = N.lower;
 }
 
--- room for a node of this tag
+-- where there is room for a node of this tag, it is no 256th, and it has its row in the array
 module _ (count bufs tag : ℕ) where
-  pub room_full : max_nodes ≤ count → false ≡ room_for count bufs tag
-  unfolding room_for
-  room_full h = simp (le-ltb _ _ h)
-
-  pub room-buffer : count < max_nodes → tag ≡ buffer_tag → ltb bufs (max_stages - 1) ≡ room_for count bufs tag
-  unfolding room_for
-  room-buffer h e = simp (lt-ltb _ _ h, eq-eqb _ _ e)
-
-  pub room-other : count < max_nodes → (tag ≡ buffer_tag → ⊥) → true ≡ room_for count bufs tag
-  unfolding room_for
-  room-other h e = simp (lt-ltb _ _ h, ne_eqb _ _ e)
-
   pub room-count : room_for count bufs tag ≡ true → count < max_nodes
   unfolding room_for
   room-count e = ltb-true count max_nodes (and_left (ltb count max_nodes) _ e)
+
+  pub row-fits : (keep : Bool) {w : List ℕ} {row : ℕ} → Rows keep w → room_for count bufs tag ≡ true → row ≡ row_for keep count → node_row (row + 1) ≤ length w
+  row-fits true R h e = omega (arith, R.all refl, room-count h)
+  row-fits false R h e = omega (arith, R.some)
 
 -- a buffer is told by its tag
 pub buffer-tag : (bs : List ℕ) (tag i : ℕ) → is_buffer (kind_at bs tag i) ≡ eqb tag buffer_tag
@@ -68,31 +58,6 @@ buffer-tag bs tag i = go (same_or steiner_tag tag) (same_or buffer_tag tag)
     go (inl e) o = rw e refl
     go (inr n) (inl e) = rw e refl
     go (inr n) (inr m) = simp (ne_eqb _ _ n, ne_eqb _ _ m)
-
--- the ranges of a record
-module _ (costs : Bool) (r : Node) where
-  pub ranges_length : max_length < r.len → false ≡ ranges_of costs r
-  unfolding ranges_of
-  ranges_length h = simp (lt-leb _ _ h)
-
-  module _ (h : r.len ≤ max_length) where
-    pub ranges_costs : costs ≡ false → false ≡ ranges_of costs r
-    unfolding ranges_of
-    ranges_costs o = simp (le-leb _ _ h, o)
-
-    pub ranges_kind : costs ≡ true → is_kind r.kind ≡ ranges_of costs r
-    unfolding ranges_of
-    ranges_kind o = simp (le-leb _ _ h, o)
-
--- the places for children
-module _ (count : ℕ) (kids : List ℕ) (p : ℕ) where
-  pub parent_higher : count < p → false ≡ parent_for count kids p
-  unfolding parent_for
-  parent_higher h = simp (lt-leb _ _ h)
-
-  pub parent-places : p ≤ count → ltb (get_or kids p 0) max_children ≡ parent_for count kids p
-  unfolding parent_for
-  parent-places h = simp (le-leb _ _ h)
 
 -- a node field lies within the bytes with all its numbers
 pub node-ends : (bs : List ℕ) (L i : ℕ) {f : Field} → field (due_node L) bs i ≡ accept f → f.start + 4 + 4 * L + kind_size f.tag ≤ length bs
@@ -124,21 +89,21 @@ field-taken bs L count bufs kids i e o =
     accept_injective (sym e ∙ p) ∙ accept_injective o4
 
 module _ (bs : List ℕ) (L count bufs : ℕ) (kids : List ℕ) (i : ℕ) (keep : Bool) (old new : List ℕ) where
-  step_no : {x r : ℕ} → x ≡ r → step_at bs L count bufs kids i ≡ refuse r → StepRead bs L count bufs kids i keep (step.Refused x) old new
+  step_no : {why : Refusal} → step_at bs L count bufs kids i ≡ refuse (number_of why) → StepRead bs L count bufs kids i keep (Err why) old new
   unfolding step_at
-  step_no e h = record {
-    answer = ap refuse e ∙ sym h;
+  step_no h = record {
+    answer = sym h;
     put = λ f o. not-refused (sym h ∙ ap (λ (y : Answer Field). y >>= λ f. accept (taken_at bs L f)) o);
   }
 
-  pub step-none : {x r : ℕ} → x ≡ r → field (due_node L) bs i ≡ refuse r → StepRead bs L count bufs kids i keep (step.Refused x) old new
+  pub step-none : {why : Refusal} → field (due_node L) bs i ≡ refuse (number_of why) → StepRead bs L count bufs kids i keep (Err why) old new
   unfolding step_at step_field
-  step-none q e = step_no q (simp e)
+  step-none e = step_no (simp e)
 
   module _ {f : Field} (e : field (due_node L) bs i ≡ accept f) where
-    pub step_4 : room_for count bufs f.tag ≡ false → StepRead bs L count bufs kids i keep (step.Refused 4) old new
+    pub step_4 : room_for count bufs f.tag ≡ false → StepRead bs L count bufs kids i keep (Err refusal.TooMany) old new
     unfolding step_at step_field
-    step_4 h = step_no refl (simp (e, h))
+    step_4 h = step_no (simp (e, h))
 
     -- n, b and d are the record and the outcomes of the last two tests, as the code has them
     module _ (room : room_for count bufs f.tag ≡ true) {row : ℕ} {n : Node} {b q : Bool} (er : row ≡ row_for keep count)
@@ -150,18 +115,18 @@ module _ (bs : List ℕ) (L count bufs : ℕ) (kids : List ℕ) (i : ℕ) (keep 
           rw (ed, eb, N.answer, en, N.is) (simp (e, room)
           (tests (is_node max_length (node_at bs L f)) (parent_for count kids (node_at bs L f).parent) f (taken_at bs L)))
 
-      pub step_3 : b ≡ false → StepRead bs L count bufs kids i keep (step.Refused 3) old new
-      step_3 h = step_no refl (step-tests (parent_for count kids n.parent) refl ∙ simp h)
+      pub step_3 : b ≡ false → StepRead bs L count bufs kids i keep (Err refusal.OutOfRange) old new
+      step_3 h = step_no (step-tests (parent_for count kids n.parent) refl ∙ simp h)
 
       module _ {d : Bool} (ed : d ≡ parent_for count kids n.parent) (h : b ≡ true) where
-        pub step_5 : d ≡ false → StepRead bs L count bufs kids i keep (step.Refused 5) old new
-        step_5 l = step_no refl (step-tests d ed ∙ simp (h, l))
+        pub step_5 : d ≡ false → StepRead bs L count bufs kids i keep (Err refusal.WrongParent) old new
+        step_5 l = step_no (step-tests d ed ∙ simp (h, l))
 
         step_took : d ≡ true → step_at bs L count bufs kids i ≡ accept (record { node = n; next = f.start + f.size })
         step_took l = step-tests d ed ∙ simp (h, l)
 
         -- the node is in its row
-        pub step-put : d ≡ true → StepRead bs L count bufs kids i keep (step.Node n (f.start + f.size)) old new
+        pub step-put : d ≡ true → StepRead bs L count bufs kids i keep (Ok (record { node = n; next = f.start + f.size })) old new
         unfolding step_at
         step-put l = record {
           answer = sym (step_took l);

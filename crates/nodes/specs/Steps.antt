@@ -1,12 +1,13 @@
 -- One node field: the code's tests and its answer in the terms of 01.
-use Rattle.std.specs.Prelude.{◌≡◌, Bool, not, ◌&&◌, ◌||◌, List, ℕ, ◌-◌, ◌<◌, leb, ltb, eqb, get_or}
+use Rattle.std.specs.Prelude.{◌≡◌, Bool, not, ◌&&◌, ◌||◌, List, ℕ, ◌-◌, ◌<◌, leb, ltb, eqb, get_or, Result}
+use Rattle.rules.specs.declared.Refusal.{Refusal}
+use Rattle.rules.specs.Refusals.{answered}
 use Rattle.rules.specs.Bytes.{Field, buffer_tag, max_nodes, max_stages, max_children, max_length, next, due_node, node_at, is_kind, is_node}
-use Rattle.rules.specs.Reading.{Answer, accept, refuse, ◌>>=◌, ◌>>◌, ◌unless◌, field}
+use Rattle.rules.specs.Reading.{Answer, accept, ◌>>=◌, ◌>>◌, ◌unless◌, field}
 use Rattle.words.specs.declared.Node.{Node}
 use Rattle.words.specs.Words.{node_row, row_for, node_in}
 use Rattle.words.specs.Puts.{record_at}
 use Rattle.nodes.specs.declared.Step.{Step}
-use Rattle.nodes.specs.declared.Step.TheVariants as step
 
 -- The tests of a node over what the code keeps: how many nodes and buffers were read, and for each node how many children it has, plus two for a sink,
 -- which takes none and needs none. Room for one more node of this tag (refusal 4):
@@ -43,15 +44,9 @@ taken_at bs L f = record { node = record_at bs L f.tag f.start; next = next f }
 unfoldable pub step_at : List ℕ → ℕ → ℕ → ℕ → List ℕ → ℕ → Answer Taken
 step_at bs L count bufs kids i = step_field bs L count bufs kids i >>= λ f. accept (taken_at bs L f)
 
--- a step's answer in these terms
-abbrev pub step_taken : Step → Answer Taken
-step_taken (step.Node n x) = accept (record { node = n; next = x })
-step_taken (step.Refused r) = refuse r
-
--- its refusal number, 0 for a node
-abbrev pub step_refusal : Step → ℕ
-step_refusal (step.Node n x) = 0
-step_refusal (step.Refused r) = r
+-- that of a step of the code
+abbrev pub step_taken : Step → Taken
+step_taken s = record { node = s.node; next = s.next }
 
 -- the node of a field in row j, all before that row as it was
 pub record Put (bs : List ℕ) (L : ℕ) (f : Field) (old new : List ℕ) (j : ℕ) : Type 0 where
@@ -59,6 +54,6 @@ pub record Put (bs : List ℕ) (L : ℕ) (f : Field) (old new : List ℕ) (j : �
   pub lower : (k : ℕ) → k < node_row j → get_or new k 0 ≡ get_or old k 0
 
 -- a step's answer, and the node that it took in its row
-pub record StepRead (bs : List ℕ) (L count bufs : ℕ) (kids : List ℕ) (i : ℕ) (keep : Bool) (r : Step) (old new : List ℕ) : Type 0 where
-  pub answer : step_taken r ≡ step_at bs L count bufs kids i
+pub record StepRead (bs : List ℕ) (L count bufs : ℕ) (kids : List ℕ) (i : ℕ) (keep : Bool) (r : Result Step Refusal) (old new : List ℕ) : Type 0 where
+  pub answer : answered step_taken r ≡ step_at bs L count bufs kids i
   pub put : (f : Field) → step_field bs L count bufs kids i ≡ accept f → Put bs L f old new (row_for keep count)

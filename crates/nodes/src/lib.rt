@@ -4,65 +4,50 @@
 ghost use Rattle.std.specs.Prelude.{◌≡◌, ◌+◌, ◌≤◌, ◌<◌, length};
 ghost use Rattle.rules.specs.Bytes.{max_layers, max_nodes};
 ghost use Rattle.words.specs.Words.{row_for, Rows};
-ghost use Rattle.nodes.specs.Steps.{room_for, ranges_of, parent_for, step_refusal, StepRead};
+ghost use Rattle.nodes.specs.Steps.{room_for, ranges_of, parent_for, StepRead};
 
-use fields::{Due, Found, field_at, found_refusal, kind_in_range};
+use fields::{Due, field_at, kind_in_range};
+use rules::Refusal;
 use words::{Node, node_in, put_node};
 
+// How many nodes were read, and how many of them are buffers.
+#[derive(Clone, Copy)]
+pub struct Counts {
+    pub count: usize,
+    pub buffers: usize,
+}
+
 // Whether there is room for one more node, of this tag (refusal 4).
-fn has_room(count: usize, buffers: usize, tag: u32) -> bool
-    ensures { result ≡ room_for count buffers tag }
+// Kept: the tag is the number in the bytes (01, Net bytes) and in the word of its row; an enum would be made of it and turned back into it.
+#[tactic(auto, unfolding(crate::specs::Steps::room_for))]
+fn has_room(so_far: Counts, tag: u32) -> bool
+    ensures { result ≡ room_for so_far.count so_far.buffers tag }
 {
-    if rules::MAX_NODES <= count {
-        return false;
-    }
-    if tag == 4 {
-        return buffers < rules::MAX_STAGES - 1;
-    }
-    true
+    so_far.count < rules::MAX_NODES && (tag != 4 || so_far.buffers < rules::MAX_STAGES - 1)
 }
 
 // Whether the numbers of a node are in their ranges, given whether its costs are (refusal 3).
+#[tactic(auto, unfolding(crate::specs::Steps::ranges_of))]
 fn in_ranges(node: Node, costs: bool) -> bool
     ensures { result ≡ ranges_of costs node }
 {
-    let len = node.len;
-    let kind = node.kind;
-    if rules::MAX_LENGTH < len {
-        return false;
-    }
-    if !costs {
-        return false;
-    }
-    kind_in_range(kind)
+    node.len <= rules::MAX_LENGTH && costs && kind_in_range(node.kind)
 }
 
 // Whether node `parent` may have one more child (refusal 5).
+#[tactic(auto, unfolding(crate::specs::Steps::parent_for))]
 fn may_have_child(kids: &[u16], count: usize, parent: usize) -> bool
     requires { (count ≤ max_nodes) × (length kids.now ≡ max_nodes + 1) }
     ensures { result ≡ parent_for count kids.now parent }
 {
-    if count < parent {
-        return false;
-    }
-    kids[parent] < rules::MAX_CHILDREN
+    parent <= count && kids[parent] < rules::MAX_CHILDREN
 }
 
-// What reading a node field gives: its record and where the next field starts, or a refusal number.
+// What reading a node field gives: its record, and where the next field starts.
 #[derive(Clone, Copy)]
-pub enum Step {
-    Node { node: Node, next: usize },
-    Refused(u8),
-}
-
-// The refusal number of a step, 0 for a node.
-pub fn step_refusal(step: Step) -> u8
-    ensures { result ≡ step_refusal step }
-{
-    match step {
-        Step::Node { node: _, next: _ } => 0,
-        Step::Refused(r) => r,
-    }
+pub struct Step {
+    pub node: Node,
+    pub next: usize,
 }
 
 // The row for the node after `count` nodes: its own where the net is kept, else always row 1.
@@ -70,45 +55,38 @@ fn row_for(keep: bool, count: usize) -> usize
     requires { count < max_nodes }
     ensures { result ≡ row_for keep count }
 {
-    if keep {
-        return count + 1;
-    }
-    1
+    if keep { count + 1 } else { 1 }
 }
 
-// The node field that is due at `at`, after `count` nodes with `buffers` buffers among them, into its row: the field's own faults, then 4, 3, 5.
+// The node field that is due at `at`, after the nodes that were read so far, into its row: the field's own faults, then 4, 3, 5.
+// Kept: what is left differs from call to call: the bytes, the place, what was counted, and two arrays lent.
 pub fn read_node(
     net: &[u8],
     at: usize,
     layers: usize,
-    count: usize,
-    buffers: usize,
+    so_far: Counts,
     kids: &[u16],
     keep: bool,
     words: &mut [u32],
-) -> Step
+) -> Result<Step, Refusal>
     requires { (layers ≤ max_layers) × (at ≤ length net.now) × (length kids.now ≡ max_nodes + 1) × Rows keep words.old }
-    ensures { StepRead net.now layers count buffers kids.now at keep result words.old words.new }
+    ensures { StepRead net.now layers so_far.count so_far.buffers kids.now at keep result words.old words.new }
 {
-    let found = field_at(net, at, Due::Node, layers);
-    let Found::Field { tag, start, size } = found else {
-        return Step::Refused(found_refusal(found));
-    };
-    if !has_room(count, buffers, tag) {
-        return Step::Refused(4);
+    let field = field_at(net, at, Due::Node, layers)?;
+    if !has_room(so_far, field.tag) {
+        return Err(Refusal::TooMany);
     }
-    let row = row_for(keep, count);
-    let costs = put_node(net, tag, start, layers, row, words);
+    let row = row_for(keep, so_far.count);
+    let costs = put_node(net, field.tag, field.start, layers, row, words);
     let node = node_in(words, row);
-    let parent = node.parent;
     if !in_ranges(node, costs) {
-        return Step::Refused(3);
+        return Err(Refusal::OutOfRange);
     }
-    if !may_have_child(kids, count, parent) {
-        return Step::Refused(5);
+    if !may_have_child(kids, so_far.count, node.parent) {
+        return Err(Refusal::WrongParent);
     }
-    Step::Node {
+    Ok(Step {
         node,
-        next: start + size,
-    }
+        next: field.start + field.size,
+    })
 }

@@ -1,11 +1,13 @@
 -- What planning a net is given and gives: the answer of 01, and the buffer and the table it leaves.
-use Rattle.std.specs.Prelude.{◌≡◌, refl, true, false, ◌&&◌, List, ◌++◌, ℕ, ◌*◌, ◌≤◌, leb, eqb, length, take, drop, replicate, ℤ, pos}
-use Rattle.std.proofs.Common.{ap, sym, ◌∙◌, arith, le-leb, to_z, of_z, to_z-of_z}
+use Rattle.std.specs.Prelude.{◌≡◌, refl, true, false, ◌&&◌, List, ◌++◌, ℕ, ◌*◌, ◌≤◌, leb, eqb, length, take, drop, replicate, ℤ, pos, Result, Ok, Err}
+use Rattle.std.proofs.Common.{ap, sym, ◌∙◌, arith, le-leb, to_z, of_z, to_z-of_z, FitsSigned}
 use Rattle.std.specs.Int.{w64}
 use Rattle.laws.specs.Booleans.{and_right}
 use Rattle.laws.specs.Basic.{within}
 use Rattle.rules.specs.declared.Planned.{Planned}
 use Rattle.rules.specs.declared.Judged.{Judged}
+use Rattle.rules.specs.declared.Refusal.{Refusal}
+use Rattle.rules.specs.Refusals.{number_of}
 use Rattle.rules.specs.Tree.{Net, stages, is_plan, are_layers}
 use Rattle.rules.specs.Timing.{cost, slack}
 use Rattle.rules.specs.Grain.{floor}
@@ -22,6 +24,10 @@ use Rattle.demands.specs.Call.{share_in, all-late, all_pass, refused_with, plan-
 use Rattle.slices.specs.Laid.{Laid}
 use Rattle.rounds.specs.Problem.{Problem}
 use Rattle.search.specs.Planned.{IsLate, IsShort, IsFound}
+use Rattle.search.specs.Planned as search
+use Rattle.search.specs.declared.Unplanned.{Unplanned}
+use Rattle.search.specs.declared.Unplanned.TheVariants.{Late, Short}
+use Rattle.planning.specs.declared.JudgedPlan.{JudgedPlan}
 use Rattle.planning.specs.Outcomes.{problem_of, none-meets, too_short, served, Served, TooShort, floor-is}
 
 -- A share in its range (refusal 9).
@@ -44,9 +50,18 @@ pub problem_in : {w : List ℕ} {nodes layers s p q room : ℕ} → Admitted w n
 problem_in G laid e =
     problem_of (held-accepted G.held) laid G.stages-are G.held.layers-are e G.share.most G.share.some-part G.share.parts
 
+-- The arrival time as the search has it.
+pub arrival-sent : {t a : ℤ} → FitsSigned w64 t → t ≡ a → to_z w64 (of_z w64 t) ≡ a
+arrival-sent f e = to_z-of_z f ∙ e
+
 -- The answer with what it leaves in table and buffer is that of 01.
 abbrev pub PlansNet : List ℕ → ℕ → ℕ → List ℤ → List ℤ → List ℕ → List ℕ → Planned → Type 0
 PlansNet bs p q table tableAfter buffer bufferAfter r = plan_answer r bufferAfter tableAfter ≡ plan bs p q table buffer
+
+-- The answer: the plan found with refusal 0, or the refusal's number and zeros.
+abbrev pub told : Result JudgedPlan Refusal → Planned
+told (Ok x) = record { refusal = 0; cost = x.cost; slack = x.slack; k = x.k; floor = x.floor }
+told (Err why) = refused_with (number_of why)
 
 share-passes : {p q : ℕ} → Share p q → leb p max_share && within 1 max_share q ≡ true
 share-passes {p} {q} S = share_in p q S.most S.some-part S.parts
@@ -112,6 +127,11 @@ module _ (bs : List ℕ) (p q : ℕ) (table : List ℤ) (buffer : List ℕ) wher
         let e = planned_12 (too_short (held-accepted G.held) G.stages-are I) in
         rw (I.cleared, I.plan-kept) (sym (plan-refused bs p q table buffer e))
 
+    pub unplanned-answer : {after : List ℤ} {bufferAfter : List ℕ} (why : Unplanned) → search.Planned (tree_of n) p q s table after buffer bufferAfter (Err why)
+        → PlansNet bs p q table after buffer bufferAfter (told (Err (search.refusal_of why)))
+    unplanned-answer Late I = late-answer I
+    unplanned-answer Short I = short-answer I
+
     module _ {k g v : ℕ} {after : List ℤ} {bufferAfter : List ℕ} (I : IsFound (tree_of n) p q s table after buffer bufferAfter k g v) where
       abbrev pub F : Served (held-accepted G.held) p q (length table) k g v buffer bufferAfter
       F = served-net table buffer G I
@@ -126,3 +146,9 @@ module _ (bs : List ℕ) (p q : ℕ) (table : List ℤ) (buffer : List ℕ) wher
       pub found-judged : {c : ℕ} {t : ℤ} → c ≡ cost n (take s bufferAfter) → t ≡ slack n (take s bufferAfter)
           → PlansNet bs p q table after buffer bufferAfter (record { refusal = 0; cost = c; slack = t; k = k; floor = g * v })
       found-judged ec et = rw (ec ∙ ap (cost n) (plan-here table buffer G I), et ∙ ap (slack n) (plan-here table buffer G I)) found-answer
+
+      -- The same of the plan that was found, as it is told.
+      pub found-told : {x : JudgedPlan}
+          → x ≡ record { cost = cost n (take s bufferAfter); slack = slack n (take s bufferAfter); k = k; floor = g * v }
+          → PlansNet bs p q table after buffer bufferAfter (told (Ok x))
+      found-told e = rw e (found-judged refl refl)

@@ -11,7 +11,7 @@ use Rattle.facts.specs.Accepted.{Accepted}
 use Rattle.oracle.specs.Value.{value, exponent, first_plan, MeetingPlan}
 use Rattle.demands.specs.StageNumbers.{tree_of, well_formed}
 use Rattle.demands.specs.Same.{value_same, exponent_same, first-same}
-use Rattle.demands.specs.Plans.{some-plan_iff, some-meeting, meeting, meeting-is, plan-length}
+use Rattle.demands.specs.Plans.{some-plan_iff, some-meeting, meeting-is, plan-length}
 use Rattle.demands.specs.Values.{small-costs, grain-small}
 use Rattle.demands.specs.Demand2.{chosen_is}
 use Rattle.slices.specs.Laid.{Laid}

@@ -1,3 +1,2 @@
-pub mod Powers
 pub mod Answers
 pub mod Checking

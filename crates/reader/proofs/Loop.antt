@@ -22,7 +22,9 @@ use Rattle.nodes.specs.Steps.{room_for, parent_for, step_field, step_at, taken_a
 use Rattle.reader.specs.Nodes.{whole_for, counted, places}
 use Rattle.nodes.specs.Steps.{Put, StepRead}
 use Rattle.reader.specs.Nodes.{Stored, Kids, NodesRead}
-use Rattle.reader.specs.declared.Nodes.TheVariants as nodes
+use Rattle.std.specs.Prelude.{Ok, Err}
+use Rattle.rules.specs.declared.Refusal.{Refusal}
+use Rattle.rules.specs.Refusals.{number_of}
 use Rattle.nodes.specs.declared.Step.{Step}
 use Rattle.fields.proofs.Laws.{field-inside}
 use Rattle.words.specs.Words.{row_for, Rows}
@@ -241,11 +243,10 @@ module _ {bs : List ℕ} {L first : ℕ} {keep : Bool} {old words kids : List �
   same_step : step_field bs L count bufs kids at ≡ node_field max_length bs L g.ns at
   same_step = rw (← g.size, ← g.buffered) (step_same g.kids_are (omega (arith, g.size, g.few)) bs L at)
 
-  pub read_took : at < length bs → {t : Taken} {r : Step} {after : List ℕ} → StepRead bs L count bufs kids at keep r words after → accept t ≡ step_taken r
-      → length after ≡ length words
-      → NodeTurn bs L first keep old words kids at count bufs t after
-  read_took h {t} {r} {after} R et long =
-      let (f, a, q) = turned_accepted (node_field max_length bs L g.ns at) (taken_at bs L) (et ∙ R.answer ∙ stepped) in
+  pub read_took : at < length bs → {s : Step} {after : List ℕ} → StepRead bs L count bufs kids at keep (Ok s) words after → length after ≡ length words
+      → NodeTurn bs L first keep old words kids at count bufs (step_taken s) after
+  read_took h {s} {after} R long =
+      let (f, a, q) = turned_accepted (node_field max_length bs L g.ns at) (taken_at bs L) (R.answer ∙ stepped) in
       rw (← g.size, ← g.buffered, q) (turn h f a long (subst (λ (k : ℕ). Put bs L f words after (row_for keep k)) (sym g.size) (R.put f (same_step ∙ a))))
 
   one_less : max_nodes + 1 - count ≡ suc (max_nodes - count)
@@ -279,17 +280,17 @@ read-start bs L first {keep} {words} h lh thin ek = record {
 
 -- the loop's answer
 module _ (bs : List ℕ) (L first : ℕ) (keep : Bool) (old words kids : List ℕ) where
-  pub nodes-refused : {x r : ℕ} → x ≡ r → nodes_from max_length (max_nodes + 1) bs L [] first ≡ refuse r
-      → NodesRead bs L first keep (nodes.Refused x) old words kids
-  nodes-refused e h = record {
-    counts = ap refuse e ∙ sym (ap (λ (y : Answer (List Node)). y >>= λ ns. accept (counted ns)) h);
+  pub nodes-refused : {why : Refusal} → nodes_from max_length (max_nodes + 1) bs L [] first ≡ refuse (number_of why)
+      → NodesRead bs L first keep (Err why) old words kids
+  nodes-refused h = record {
+    counts = sym (ap (λ (y : Answer (List Node)). y >>= λ ns. accept (counted ns)) h);
     few = λ ns q. not-refused (sym h ∙ q);
     kids_are = λ ns q. not-refused (sym h ∙ q);
     stored = λ ns q. not-refused (sym h ∙ q);
   }
 
   pub nodes-read : {at count bufs : ℕ} → (g : ReadSoFar bs L first keep old words kids at count bufs) → length bs ≤ at
-      → NodesRead bs L first keep (nodes.Tree count bufs) old words kids
+      → NodesRead bs L first keep (Ok (record { count = count; buffers = bufs })) old words kids
   nodes-read g b =
       let h = read_end g b in
       record {

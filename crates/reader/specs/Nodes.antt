@@ -1,13 +1,14 @@
 -- What the code keeps of the nodes read so far, and its last test and its answers in the terms of 01.
-use Rattle.std.specs.Prelude.{◌≡◌, Bool, true, List, [], map, ℕ, ◌+◌, ◌*◌, ◌<◌, ◌≤◌, leb, length, get_or}
+use Rattle.std.specs.Prelude.{◌≡◌, Bool, true, List, [], map, ℕ, ◌+◌, ◌*◌, ◌<◌, ◌≤◌, leb, length, get_or, Result}
+use Rattle.rules.specs.declared.Refusal.{Refusal}
+use Rattle.rules.specs.Refusals.{answered}
 use Rattle.laws.specs.Basic.{all, from, bit}
 use Rattle.rules.specs.Tree as tree
 use Rattle.rules.specs.Tree.{is_sink, node}
 use Rattle.rules.specs.Bytes.{max_length, max_nodes, max_children}
-use Rattle.rules.specs.Reading.{Answer, accept, refuse, ◌>>=◌, ◌>>◌, ◌unless◌, children, buffers, nodes_from, is_whole}
+use Rattle.rules.specs.Reading.{Answer, accept, ◌>>=◌, ◌>>◌, ◌unless◌, children, buffers, nodes_from, is_whole}
 use Rattle.words.specs.Words.{node_row, nodes_in}
-use Rattle.reader.specs.declared.Nodes.{Nodes}
-use Rattle.reader.specs.declared.Nodes.TheVariants as nodes
+use Rattle.nodes.specs.declared.Counts.{Counts}
 
 -- a child for every node but a sink (refusal 6)
 unfoldable pub whole_for : ℕ → List ℕ → Bool
@@ -22,15 +23,9 @@ pub record Counted : Type 0 where
 abbrev pub counted : List tree.Node → Counted
 counted ns = record { count = length ns; bufs = buffers ns }
 
--- the answer for all nodes in these terms
-abbrev pub nodes_counted : Nodes → Answer Counted
-nodes_counted (nodes.Tree n b) = accept (record { count = n; bufs = b })
-nodes_counted (nodes.Refused r) = refuse r
-
--- its refusal number, 0 for a tree
-abbrev pub nodes_refusal : Nodes → ℕ
-nodes_refusal (nodes.Tree n b) = 0
-nodes_refusal (nodes.Refused r) = r
+-- those that the code gives
+abbrev pub nodes_counted : Counts → Counted
+nodes_counted n = record { count = n.count; bufs = n.buffers }
 
 -- the children of node j, plus two if it is a sink
 unfoldable pub places : List tree.Node → ℕ → ℕ
@@ -46,8 +41,8 @@ pub record Kids (ns : List tree.Node) (kids : List ℕ) : Type 0 where
   pub each : (j : ℕ) → j < max_nodes + 1 → get_or kids j 0 ≡ places ns j
 
 -- the nodes from the byte at i on, as the code gives them and leaves them in its arrays
-pub record NodesRead (bs : List ℕ) (L i : ℕ) (keep : Bool) (r : Nodes) (old new kids : List ℕ) : Type 0 where
-  pub counts : nodes_counted r ≡ (nodes_from max_length (max_nodes + 1) bs L [] i >>= λ ns. accept (counted ns))
+pub record NodesRead (bs : List ℕ) (L i : ℕ) (keep : Bool) (r : Result Counts Refusal) (old new kids : List ℕ) : Type 0 where
+  pub counts : answered nodes_counted r ≡ (nodes_from max_length (max_nodes + 1) bs L [] i >>= λ ns. accept (counted ns))
   pub few : (ns : List tree.Node) → nodes_from max_length (max_nodes + 1) bs L [] i ≡ accept ns → (length ns ≤ max_nodes) × (buffers ns ≤ max_nodes)
   pub kids_are : (ns : List tree.Node) → nodes_from max_length (max_nodes + 1) bs L [] i ≡ accept ns → Kids ns kids
   pub stored : (ns : List tree.Node) → nodes_from max_length (max_nodes + 1) bs L [] i ≡ accept ns → Stored L ns keep old new
@@ -60,7 +55,7 @@ tree_from bs L i = do
   accept ns
 
 -- the tree, as the code gives it and leaves it in the array
-pub record TreeRead (bs : List ℕ) (L i : ℕ) (keep : Bool) (r : Nodes) (old new : List ℕ) : Type 0 where
-  pub counts : nodes_counted r ≡ (tree_from bs L i >>= λ ns. accept (counted ns))
+pub record TreeRead (bs : List ℕ) (L i : ℕ) (keep : Bool) (r : Result Counts Refusal) (old new : List ℕ) : Type 0 where
+  pub counts : answered nodes_counted r ≡ (tree_from bs L i >>= λ ns. accept (counted ns))
   pub few : (ns : List tree.Node) → tree_from bs L i ≡ accept ns → (length ns ≤ max_nodes) × (buffers ns ≤ max_nodes)
   pub stored : (ns : List tree.Node) → tree_from bs L i ≡ accept ns → Stored L ns keep old new

@@ -6,67 +6,30 @@ ghost use Rattle.laws.specs.Basic.{bit};
 ghost use Rattle.rules.specs.Tree.{is_sink, is_buffer};
 ghost use Rattle.rules.specs.Bytes.{max_layers, max_nodes, max_children};
 ghost use Rattle.words.specs.Words.{Rows};
-ghost use Rattle.reader.specs.Nodes.{whole_for, nodes_refusal, NodesRead, TreeRead};
-ghost use Rattle.reader.specs.Net.{net_refusal, RestRead, NetRead};
+ghost use Rattle.reader.specs.Nodes.{whole_for, NodesRead, TreeRead};
+ghost use Rattle.reader.specs.Net.{RestRead, NetRead};
 
-use fields::{Due, Found, field_at, found_refusal, layer_size};
-use nodes::{Step, read_node, step_refusal};
-use rules::Kind;
+use fields::{Due, field_at, layer_size};
+use nodes::{Counts, read_node};
+use rules::{Kind, Refusal};
 use words::{put_count, put_driver, put_layers};
 
 // 1 for a buffer, else 0.
+// Kept: a count of buffers is a sum of these, as `bit` in the clauses.
 pub fn buffer_bit(kind: Kind) -> usize
     ensures { result ≡ bit (is_buffer kind) }
 {
-    match kind {
-        Kind::Steiner => 0,
-        Kind::Buffer {
-            input_cap: _,
-            gate_res: _,
-            intrinsic: _,
-        } => 1,
-        Kind::Sink {
-            input_cap: _,
-            required: _,
-        } => 0,
-    }
+    usize::from(matches!(kind, Kind::Buffer { .. }))
 }
 
 // Two places for a sink, which takes no child and needs none, else 0.
+// Kept: as `buffer_bit`, for the places that a sink takes.
 fn sink_places(kind: Kind) -> u16
     ensures { result ≡ max_children * bit (is_sink kind) }
 {
     match kind {
-        Kind::Steiner => 0,
-        Kind::Buffer {
-            input_cap: _,
-            gate_res: _,
-            intrinsic: _,
-        } => 0,
-        Kind::Sink {
-            input_cap: _,
-            required: _,
-        } => rules::MAX_CHILDREN,
-    }
-}
-
-// What reading the nodes gives: how many there are and how many of them are buffers, or a refusal number.
-#[derive(Clone, Copy)]
-pub enum Nodes {
-    Tree { count: usize, buffers: usize },
-    Refused(u8),
-}
-
-// The refusal number, 0 for a tree.
-fn nodes_refusal(nodes: Nodes) -> u8
-    ensures { result ≡ nodes_refusal nodes }
-{
-    match nodes {
-        Nodes::Tree {
-            count: _,
-            buffers: _,
-        } => 0,
-        Nodes::Refused(r) => r,
+        Kind::Sink { .. } => rules::MAX_CHILDREN,
+        _ => 0,
     }
 }
 
@@ -78,27 +41,25 @@ fn nodes_from(
     keep: bool,
     words: &mut [u32],
     kids: &mut [u16],
-) -> Nodes
+) -> Result<Counts, Refusal>
     requires { (layers ≤ max_layers) × (first ≤ length net.now) × Rows keep words.old × (kids.old ≡ replicate (max_nodes + 1) 0) }
     ensures { NodesRead net.now layers first keep result words.old words.new kids.new }
 {
     let mut at = first;
-    let mut count: usize = 0;
-    let mut buffers: usize = 0;
+    let mut so_far = Counts {
+        count: 0,
+        buffers: 0,
+    };
+    // Kept: no index is counted: each turn goes on by the length of the field that it read.
     while at < net.len() {
-        let step = read_node(net, at, layers, count, buffers, kids, keep, words);
-        let Step::Node { node, next } = step else {
-            return Nodes::Refused(step_refusal(step));
-        };
-        let parent = node.parent;
-        let kind = node.kind;
-        kids[parent] += 1;
-        count += 1;
-        kids[count] += sink_places(kind);
-        buffers += buffer_bit(kind);
-        at = next;
+        let step = read_node(net, at, layers, so_far, kids, keep, words)?;
+        kids[step.node.parent] += 1;
+        so_far.count += 1;
+        kids[so_far.count] += sink_places(step.node.kind);
+        so_far.buffers += buffer_bit(step.node.kind);
+        at = step.next;
     }
-    Nodes::Tree { count, buffers }
+    Ok(so_far)
 }
 
 // Whether every node but a sink has a child (refusal 6).
@@ -106,100 +67,72 @@ fn all_have_children(kids: &[u16], count: usize) -> bool
     requires { (count ≤ max_nodes) × (length kids.now ≡ max_nodes + 1) }
     ensures { result ≡ whole_for count kids.now }
 {
-    let mut i: usize = 0;
-    while i <= count {
-        if kids[i] < 1 {
-            return false;
-        }
-        i += 1;
-    }
-    true
+    kids[..=count].iter().all(|children| 1 <= *children)
 }
 
 // The nodes from `first` to the end, and the last test.
-fn tree_from(net: &[u8], first: usize, layers: usize, keep: bool, words: &mut [u32]) -> Nodes
+fn tree_from(
+    net: &[u8],
+    first: usize,
+    layers: usize,
+    keep: bool,
+    words: &mut [u32],
+) -> Result<Counts, Refusal>
     requires { (layers ≤ max_layers) × (first ≤ length net.now) × Rows keep words.old }
     ensures { TreeRead net.now layers first keep result words.old words.new }
 {
     let mut kids = [0u16; rules::MAX_NODES + 1];
-    let nodes = nodes_from(net, first, layers, keep, words, &mut kids);
-    let Nodes::Tree { count, buffers } = nodes else {
-        return nodes;
-    };
-    if !all_have_children(&kids, count) {
-        return Nodes::Refused(6);
+    let counts = nodes_from(net, first, layers, keep, words, &mut kids)?;
+    if !all_have_children(&kids, counts.count) {
+        return Err(Refusal::Childless);
     }
-    Nodes::Tree { count, buffers }
+    Ok(counts)
 }
 
-// What reading a net gives: its nodes after the driver, stages and layers, or the number of the first fault.
+// What reading a net gives: its nodes after the driver, stages and layers.
 #[derive(Clone, Copy)]
-pub enum Net {
-    Read {
-        nodes: usize,
-        stages: usize,
-        layers: usize,
-    },
-    Refused(u8),
-}
-
-// The refusal number of a reading, 0 for a net.
-pub fn net_refusal(found: Net) -> u8
-    ensures { result ≡ net_refusal found }
-{
-    match found {
-        Net::Read {
-            nodes: _,
-            stages: _,
-            layers: _,
-        } => 0,
-        Net::Refused(r) => r,
-    }
+pub struct NetCounts {
+    pub nodes: usize,
+    pub stages: usize,
+    pub layers: usize,
 }
 
 // What follows the layers, from `at` on: the driver, then the nodes.
-fn rest_from(net: &[u8], at: usize, layers: usize, keep: bool, words: &mut [u32]) -> Net
+fn rest_from(
+    net: &[u8],
+    at: usize,
+    layers: usize,
+    keep: bool,
+    words: &mut [u32],
+) -> Result<NetCounts, Refusal>
     requires { (layers ≤ max_layers) × (at ≤ length net.now) × Rows keep words.old }
     ensures { RestRead net.now layers at keep result words.old words.new }
 {
-    let found = field_at(net, at, Due::Driver, 0);
-    let Found::Field {
-        tag: _,
-        start,
-        size,
-    } = found
-    else {
-        return Net::Refused(found_refusal(found));
-    };
-    if !put_driver(net, start, layers, words) {
-        return Net::Refused(3);
+    let driver = field_at(net, at, Due::Driver, 0)?;
+    if !put_driver(net, driver.start, layers, words) {
+        return Err(Refusal::OutOfRange);
     }
-    let nodes = tree_from(net, start + size, layers, keep, words);
-    let Nodes::Tree { count, buffers } = nodes else {
-        return Net::Refused(nodes_refusal(nodes));
-    };
-    put_count(words, count);
-    Net::Read {
-        nodes: count,
-        stages: buffers + 1,
+    let counts = tree_from(net, driver.start + driver.size, layers, keep, words)?;
+    put_count(words, counts.count);
+    Ok(NetCounts {
+        nodes: counts.count,
+        stages: counts.buffers + 1,
         layers,
-    }
+    })
 }
 
-// The net that the bytes hold: layers, driver, nodes. Where it is to be kept, the array becomes the net.
-pub fn read(net: &[u8], keep: bool, words: &mut [u32]) -> Net
+// The net that the bytes hold, or the first fault: layers, driver, nodes. Where it is to be kept, the array becomes the net.
+// Kept: `keep` says which row a node goes to; a closure would take the array with it.
+pub fn read(net: &[u8], keep: bool, words: &mut [u32]) -> Result<NetCounts, Refusal>
     requires { Rows keep words.old }
     ensures { NetRead net.now keep result words.new }
 {
-    let found = field_at(net, 0, Due::Layers, 0);
-    let Found::Field { tag, start, size } = found else {
-        return Net::Refused(found_refusal(found));
-    };
-    let each = layer_size(tag);
+    let field = field_at(net, 0, Due::Layers, 0)?;
+    let each = layer_size(field.tag);
     // The first layer and those after it: in this form the compiler knows that there is one.
-    let layers = 1 + (size - each) / each;
-    if !put_layers(net, tag, start, layers, words) {
-        return Net::Refused(3);
+    let layers = 1 + (field.size - each) / each;
+    if !put_layers(net, field.tag, field.start, layers, words) {
+        return Err(Refusal::OutOfRange);
     }
-    rest_from(net, start + size, layers, keep, words)
+    rest_from(net, field.start + field.size, layers, keep, words)
 }

@@ -27,9 +27,6 @@ pub record Trying (table : List ℤ) (driver first next delay : List ℕ) (limit
       → layers ≡ T.layers → asked i t ≡ true → least_at T k (width - 1) i t < width → (m : ℕ) → m < l → attains T (charge T k (width - 1)) i t m ≡ false
 
 module _ {table : List ℤ} {driver first next delay : List ℕ} {limit : List ℤ} {cost starts ends : List ℕ} {stages layers width g i : ℕ} {t : ℤ} where
-  pub trying_start : 0 < layers → Trying table driver first next delay limit cost starts ends stages layers width g i t 0
-  trying_start h = record { inside = h; before = λ T k asked F e q small m below. absurd (omega arith) }
-
   module _ {least need l : ℕ} (here : Trying table driver first next delay limit cost starts ends stages layers width g i t l) (low : i < stages)
       (C : Column table (i * width) (get_or starts i 0) (get_or ends i 0) width t least)
       (N : Need table driver first next delay limit cost starts ends stages width g i l t need) where

@@ -9,7 +9,7 @@ use native.Mathlib.Decide.{dec_le}
 use native.Mathlib.Nat.{div-le_self, mul-le-mul_left, mul-le-mul_right}
 use lib.Dec.{leb}
 use lib.IntN.{ℤ}
-use lib.ListN.{length, get_or}
+use lib.ListN.{get_or}
 use lib.Signed.{le_z, lt_z}
 use borrow.Author.Tests.{eq-eqb, ne_eqb, lt-leb}
 use Rattle.laws.specs.Basic.{sum}
@@ -134,11 +134,6 @@ module _ {table : List ℤ} {driver first next delay : List ℕ} {limit : List �
             let added = passing-more (drives_stage T i) f (suc i) j here.started (eq-eqb (T.driver j) i s) in
             omega (arith, here.is T k asked F hl q paid, skipped, added, one);
       }
-
-  -- The sum stays within 64 bits: the rows that are added up fit into the table.
-  pub adding_fits : {need j r : ℕ} → NeedSoFar table driver first next delay limit cost starts ends stages width g i l t need j → j < stages
-      → DrivenNeed table delay starts ends width l t j r → stages * width ≤ length table → length table * 8 < 2 ^ 63 → need + r < 2 ^ 64
-  adding_fits {need} {j} {r} here h D long small = omega (arith, row_inside stages width j long h, here.most, D.most)
 
   -- At the end all that stage i drives is added, and none of its sinks is late.
   pub adding_end : {need j : ℕ} → NeedSoFar table driver first next delay limit cost starts ends stages width g i l t need j → 0 < width → i < stages

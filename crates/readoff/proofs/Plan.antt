@@ -3,7 +3,7 @@
 use Rattle.std.specs.Prelude.{if◌then◌else◌}
 use mathlib.Core.Path.{◌≡◌, refl, ap, sym, ◌∙◌}
 use mathlib.Core.Bool.{Bool, true, false}
-use mathlib.Core.List.{List, [], ◌∷◌, ◌++◌, append_assoc, append-nil}
+use mathlib.Core.List.{List, [], ◌∷◌, ◌++◌, append_assoc}
 use Prim.Native.Nat.{ℕ, zero, suc, ◌+◌, ◌-◌, ◌/◌, ◌^◌, ◌≤◌, ◌<◌}
 use native.Mathlib.Omega.{arith}
 use native.Mathlib.Nat.{sub-zero}
@@ -22,7 +22,7 @@ use Rattle.oracle.specs.Timing.{charge}
 use Rattle.oracle.specs.ReadOff.{first_layer, read_off, first-attains, read-least, read_step}
 use Rattle.oracle.specs.Result.{tree_least, read_plan}
 use Rattle.slices.specs.Laid.{on_layer, time_at, LaidDelays, delay_in_range}
-use Rattle.readoff.specs.Clauses.{Near, arrive_at, Sized, Finished, FirstLayer, PushIn, Pushed, PlanRead}
+use Rattle.readoff.specs.Clauses.{Near, arrive_at, Sized, Finished, FirstLayer, PushIn, Pushed}
 use Rattle.readoff.specs.NearTimes.{Bounded}
 use Rattle.readoff.proofs.Times.{pushed_reach}
 
@@ -240,16 +240,3 @@ module _ {table : List ℤ} {driver first next delay : List ℕ} {limit : List �
         bounded = bounded-more;
         is = λ T k asked F el ea from-lo small. rw add-one (going_more T k asked F el (here.is T k asked F el ea from-lo small) long here.plan-long);
       }
-
-  -- At the end the plan is whole.
-  pub reading_end : {times : List ℤ} {plan : List ℕ} {i : ℕ}
-      → Reading table driver first next delay limit cost starts ends stages layers width g arrival before-times before times plan i
-      → stages ≤ i → PlanRead table driver first next delay limit cost starts ends stages layers width g arrival before plan
-  reading_end {times} {plan} {i} here h = record {
-    is = λ T k asked F el ea from-lo small.
-        let G = here.is T k asked F el ea from-lo small in
-        let end : i ≡ stages = omega (arith, here.inside) in
-        let none : T.stages - i ≡ 0 = omega (arith, F.sized.stages-are) in
-        let w : read_plan T k (width - 1) ≡ G.layers-read = G.whole ∙ rw (none, append-nil) in
-        G.plan-is ∙ rw (end, w);
-  }

@@ -30,16 +30,6 @@ stays driver delay before i l m other = rw (ne_eqb (get_or driver m 0) i other) 
 
 module _ {driver delay : List ℕ} {before : List ℤ} {stages i l : ℕ} where
   module _ {first next : List ℕ} (links : Linked driver first next stages) where
-    pub pushing_start : i < stages → Pushing driver delay before stages i l before (get_or first i 0)
-    pushing_start h = let N = links.first-is i h in record {
-      started = N.low;
-      inside = N.most;
-      driven = N.owned;
-      long = refl;
-      passed = λ m a b. stays driver delay before i l m (N.passed m a b);
-      others = λ m a. refl;
-    }
-
     -- Stage j gets its time, and the stages up to the next that stage i drives keep theirs.
     pub pushing_more : {times : List ℤ} {j : ℕ} {x : ℤ} → Pushing driver delay before stages i l times j → stages ≤ length before → j < stages
         → x ≡ arrive_at delay j l (time_at before i) → Pushing driver delay before stages i l (set times j x) (get_or next j 0)
@@ -62,9 +52,6 @@ module _ {driver delay : List ℕ} {before : List ℤ} {stages i l : ℕ} where
         go m a b (inl e) d = rw (e, eq-eqb (get_or driver j 0) i (here.driven h)) (get_or-set_same times j x (pos 0) (omega (arith, here.long)) ∙ value)
         go m a b (inr n) (yes low) = kept m n ∙ here.passed m a (omega arith)
         go m a b (inr n) (no high) = kept m n ∙ here.others m (omega arith) ∙ stays driver delay before i l m (N.passed m (omega arith) b)
-
-  pub pushing_end : {times : List ℤ} {j : ℕ} → Pushing driver delay before stages i l times j → stages ≤ j → Pushed driver delay before stages i l times
-  pushing_end here h = record { is = λ m a b. here.passed m a (omega arith) }
 
 -- What is passed on is `reach` of the tree whose numbers the slices hold.
 pub pushed_reach : {T : StageTree} {driver delay : List ℕ} {times after : List ℤ} {stages i l : ℕ} → LaidDelays T driver delay

@@ -9,6 +9,10 @@ use Rattle.oracle.specs.Timing.{charge, least_at}
 use Rattle.oracle.specs.ReadOff.{first_layer}
 use Rattle.oracle.specs.Band.{Band}
 use Rattle.oracle.specs.Result.{tree_least, read_plan}
+use Rattle.slices.specs.declared.Bands.{Bands}
+use Rattle.slices.specs.declared.Links.{Links}
+use Rattle.slices.specs.declared.Round.{Round}
+use Rattle.slices.specs.declared.Tree.{Tree}
 use Rattle.slices.specs.Laid.{max_entry, max_delay, on_layer, time_at, Laid}
 use Rattle.bands.specs.Entries.{row_at}
 
@@ -117,3 +121,35 @@ pub record PlanRead (table : List ℤ) (driver first next delay : List ℕ) (lim
   pub is : (T : StageTree) (k : ℕ) (asked : ℕ → ℤ → Bool) → Finished T k asked table driver first next delay limit cost starts ends stages width g
       → layers ≡ T.layers → arrival ≡ T.arrival
       → asked 0 T.arrival ≡ true → tree_least T k (width - 1) < width → after ≡ read_plan T k (width - 1) ++ drop stages before
+
+-- The same of the structs in which the slices travel: the tree, its links, the bands, and the round's width and grain.
+abbrev pub SizedOf : StageTree → List ℤ → Tree → Links → Bands → Round → Type 0
+SizedOf T table tree links bands n =
+    Sized T table tree.driver.now links.first.now links.next.now tree.delay.now tree.limit.now tree.cost.now bands.starts.now bands.ends.now
+    tree.stages n.width n.grain
+
+abbrev pub NeedOf : List ℤ → Tree → Links → Bands → Round → ℕ → ℕ → ℤ → ℕ → Type 0
+NeedOf table tree links bands n i l t r =
+    Need table tree.driver.now links.first.now links.next.now tree.delay.now tree.limit.now tree.cost.now bands.starts.now bands.ends.now
+    tree.stages n.width n.grain i l t r
+
+abbrev pub FirstLayerOf : List ℤ → Tree → Links → Bands → Round → ℕ → ℤ → ℕ → Type 0
+FirstLayerOf table tree links bands n i t r =
+    FirstLayer table tree.driver.now links.first.now links.next.now tree.delay.now tree.limit.now tree.cost.now bands.starts.now bands.ends.now
+    tree.stages tree.layers n.width n.grain i t r
+
+abbrev pub PushOf : Tree → Links → List ℤ → ℕ → ℕ → Type 0
+PushOf tree links times i l = PushIn tree.driver.now links.first.now links.next.now tree.delay.now times tree.stages i l
+
+abbrev pub PushedOf : Tree → List ℤ → ℕ → ℕ → List ℤ → Type 0
+PushedOf tree times i l after = Pushed tree.driver.now tree.delay.now times tree.stages i l after
+
+abbrev pub ReadOf : List ℤ → Tree → Links → Bands → Round → List ℤ → List ℕ → Type 0
+ReadOf table tree links bands n times plan =
+    ReadIn table tree.driver.now links.first.now links.next.now tree.delay.now tree.limit.now tree.cost.now bands.starts.now bands.ends.now
+    tree.stages tree.layers n.width n.grain tree.arrival times plan
+
+abbrev pub PlanReadOf : List ℤ → Tree → Links → Bands → Round → List ℕ → List ℕ → Type 0
+PlanReadOf table tree links bands n before after =
+    PlanRead table tree.driver.now links.first.now links.next.now tree.delay.now tree.limit.now tree.cost.now bands.starts.now bands.ends.now
+    tree.stages tree.layers n.width n.grain tree.arrival before after

@@ -1,23 +1,18 @@
 -- The lines of a report, put one after the other, and which of its two texts an answer has.
 use mathlib.Core.Path.{◌≡◌, ap, sym, ◌∙◌}
 use mathlib.Core.List.{List, [], ◌∷◌, ◌++◌, append_assoc, append-nil}
-use Prim.Native.Nat.{ℕ, suc, ◌+◌, ◌^◌, ◌≤◌, ◌<◌}
+use Prim.Native.Nat.{ℕ, suc, ◌+◌, ◌≤◌, ◌<◌}
 use native.Mathlib.Omega.{arith}
 use native.Mathlib.Numerals.{add-one}
-use lib.ListN.{length, take, get_or, length-append}
-use lib.Seq.{take-suc, take_all, length-take-le}
+use lib.ListN.{length, take, get_or}
+use lib.Seq.{take-suc, length-take-le}
 use borrow.Author.Tests.{eq-eqb, ne_eqb}
 use Rattle.rules.specs.declared.Report.{Report}
-use Rattle.rules.specs.Text.{space, decimal, number_field}
+use Rattle.rules.specs.Text.{space, number_field}
 use Rattle.rules.specs.Program.{refused_line}
 use Rattle.rules.specs.Block.{count_line, met_line, met_from, totals_text, answer_text}
 use Rattle.text.specs.Placing.{Placed}
 use Rattle.text.proofs.Joining.{nothing, joined}
-use Rattle.text.proofs.Decimal.{number-length}
-
--- How many bytes a word and a number of 64 bits take.
-pub field-length : (word : List ℕ) (n : ℕ) → n < 2 ^ 64 → length (number_field word n) ≤ length word + 20
-field-length word n fits = omega (arith, length-append word (decimal n), number-length n fits)
 
 -- Nothing is put for a count of 0, and nothing for no counts.
 pub none-met : (word : List ℕ) (i c : ℕ) → c ≡ 0 → met_line word i c ≡ []
@@ -53,11 +48,6 @@ met-put word counts i h first second = rw more (joined first second)
     more : met_from word 0 (take (i + 1) counts) ≡ met_from word 0 (take i counts) ++ met_line word i (get_or counts i 0)
     more = rw (add-one, take-suc counts i 0 h) (met-more word 0 (take i counts) (get_or counts i 0)
         ∙ ap (λ (j : ℕ). met_from word 0 (take i counts) ++ met_line word j (get_or counts i 0)) (omega (arith, first_i)))
-
--- All lines are put.
-pub all-met : (word counts : List ℕ) (i : ℕ) {before after : List ℕ} {at next : ℕ} → length counts ≤ i
-    → Placed (met_from word 0 (take i counts)) at before after next → Placed (met_from word 0 counts) at before after next
-all-met word counts i h p = rw (take_all i counts h) at p
 
 -- The text of an answer, by its refusal number.
 pub refused_text : (r : Report) → 1 ≤ r.refusal → answer_text r ≡ refused_line r.refusal

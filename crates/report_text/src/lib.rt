@@ -13,6 +13,7 @@ use rules::Report;
 use text::{put, put_field};
 
 // Puts a line of one number at `at`, and answers where it ends.
+#[tactic(auto, using(text::proofs::Decimal::number_length))]
 fn put_count(word: &[u8], n: u64, out: &mut [u8], at: usize) -> usize
     requires { at + max_count_line (length word.now) ≤ length out.old }
     ensures placed { Placed (count_line word.now n) at out.old out.new result }
@@ -23,6 +24,7 @@ fn put_count(word: &[u8], n: u64, out: &mut [u8], at: usize) -> usize
 }
 
 // Puts the line of refusal number or layer i at `at`, or nothing if `count` is 0. Answers where it ends.
+#[tactic(auto, using(text::proofs::Decimal::number_length))]
 fn put_met_line(word: &[u8], i: u64, count: u64, out: &mut [u8], at: usize) -> usize
     requires { (length word.now ≤ max_word) × (at + max_met_line ≤ length out.old) }
     ensures placed { Placed (met_line word.now i count) at out.old out.new result }
@@ -42,10 +44,8 @@ fn put_met(word: &[u8], counts: &[u64], out: &mut [u8], at: usize) -> usize
     ensures upper_bound { result ≤ at + max_met_line * length counts.now }
 {
     let mut next = at;
-    let mut i: usize = 0;
-    while i < counts.len() {
-        next = put_met_line(word, i as u64, counts[i], out, next);
-        i += 1;
+    for (i, count) in counts.iter().enumerate() {
+        next = put_met_line(word, i as u64, *count, out, next);
     }
     next
 }

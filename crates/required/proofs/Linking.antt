@@ -2,16 +2,19 @@
 use mathlib.Core.Path.{◌≡◌, ap, sym, ◌∙◌}
 use mathlib.Core.Bool.{true, false}
 use mathlib.Core.List.{List}
-use Prim.Native.Nat.{ℕ, ◌+◌, ◌-◌, ◌≤◌, ◌<◌}
+use Prim.Native.Nat.{ℕ, ◌+◌, ◌-◌, ◌<◌}
 use native.Mathlib.Omega.{arith}
 use lib.ListN.{length, get_or, set, replicate, length-set, length-replicate, get_or-replicate}
 use Rattle.laws.specs.Links.{link-skip, link-take}
 use Rattle.rules.specs.Tree.{Net, at, is_terminal, stages}
 use Rattle.rules.specs.Bytes.{max_nodes, max_stages}
+use Rattle.words.specs.Words.{net_in}
+use Rattle.words.specs.Held.{Held, held-accepted}
+use Rattle.words.specs.Net.{held}
 use Rattle.facts.specs.Accepted.{Accepted}
 use Rattle.facts.specs.Stages.{TerminalOf, stage-below}
 use Rattle.tree.specs.Staged.{Staged}
-use Rattle.required.specs.Links.{no_terminal, TerminalsAfter, TerminalsLinked}
+use Rattle.required.specs.Links.{no_terminal, TerminalsAfter}
 
 -- After the last node there is no terminal.
 pub links-start : {n : Net} → Accepted n → {nodes : ℕ} {first next : List ℕ} → nodes ≡ length n.nodes → first ≡ replicate max_stages no_terminal
@@ -81,6 +84,7 @@ module _ {n : Net} (A : Accepted n) {stage below first next : List ℕ} {j : ℕ
       here : TerminalOf n (get_or stage j 0) j
       here = record { edge = record { after = h; inside = L.most; stage = sym (S.stage_is j h L.most) }; ends = q }
 
--- At the driver all terminals are linked.
-pub links_end : {n : Net} {first next : List ℕ} {j : ℕ} → TerminalsAfter n first next j → j ≤ 0 → TerminalsLinked n first next
-links_end {j = j} L h = let e : j ≡ 0 = omega arith in rw e at L
+-- The stage of a node has its place among the first links.
+pub stage_in : {w : List ℕ} {nodes layers : ℕ} {stage below first next : List ℕ} {j : ℕ} → ∥ Held w nodes layers ∥₁ → Staged (net_in w) stage below
+    → TerminalsAfter (net_in w) first next j → 0 < j → get_or stage j 0 < max_stages
+stage_in t S L h = (link-places (held-accepted (held t)) S L h).stage_in

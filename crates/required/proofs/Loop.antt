@@ -18,7 +18,8 @@ use Rattle.facts.specs.Accepted.{Accepted}
 use Rattle.facts.specs.Stages.{TerminalOf, climb_root, root_before, root-drives, root-is-buffer, drives-below}
 use Rattle.facts.specs.Words.{sink_time, buffer_time}
 use Rattle.words.specs.Words.{net_in}
-use Rattle.words.specs.Held.{held-accepted}
+use Rattle.words.specs.Net.{held}
+use Rattle.words.specs.Held.{Held, held-accepted}
 use Rattle.tree.specs.Staged.{stage_below}
 use Rattle.delays.specs.Delayed.{delay_to}
 use Rattle.required.specs.Links.{no_terminal}
@@ -29,6 +30,10 @@ use Rattle.required.specs.Scan.{TerminalsSoFar, terminals-start, terminals_jump,
 below_root : (n : Net) (i : ℕ) → is_root n i ≡ true → stage_below n i ≡ drives n i
 unfolding stage_below
 below_root n i e = ap (drives n) (climb_root n i i (omega arith) e)
+
+-- A net that was read has few nodes.
+pub few_nodes : {w : List ℕ} {nodes layers : ℕ} → ∥ Held w nodes layers ∥₁ → nodes ≤ max_nodes
+few_nodes t = omega (arith, (held t).accepted.few-nodes, (held t).nodes-are)
 
 -- How long the tables are.
 pub record Sizes (nodes : ℕ) (below first next delay : List ℕ) : Type 0 where
@@ -49,19 +54,24 @@ pub record LeastSoFar (w plan : List ℕ) (nodes i j : ℕ) (r : ℤ) : Type 0 w
   pub own : j ≤ nodes → TerminalOf (net_in w) (drives (net_in w) i) j
   pub scan : TerminalsSoFar (net_in w) plan (drives (net_in w) i) j r
 
-module _ {w : List ℕ} {nodes : ℕ} {below first next delay plan : List ℕ} (T : Timed w nodes below first next delay plan) where
+module _ {w : List ℕ} {nodes layers : ℕ} {below first next delay plan : List ℕ} (net : ∥ Held w nodes layers ∥₁)
+    (T : Timed (net_in w) below first next delay plan) where
+  -- The array holds the net.
+  H : Held w nodes layers
+  H = held net
+
   -- The net was accepted.
   A : Accepted (net_in w)
-  A = held-accepted T.held
+  A = held-accepted H
 
   -- Node j of the code is one of the net.
   inside : {j : ℕ} → j ≤ nodes → j ≤ length (net_in w).nodes
-  inside h = omega (arith, T.held.nodes-are)
+  inside h = omega (arith, H.nodes-are)
 
   -- The tables are as long as the code needs.
   pub sizes : Sizes nodes below first next delay
   sizes = record {
-    nodes_in_lem = omega (arith, A.few-nodes, T.held.nodes-are);
+    nodes_in_lem = omega (arith, A.few-nodes, H.nodes-are);
     below-long = T.staged.below-long;
     first-long = T.linked.first-long;
     next-long = T.linked.next-long;
@@ -94,7 +104,7 @@ module _ {w : List ℕ} {nodes : ℕ} {below first next delay plan : List ℕ} (
     module _ {j : ℕ} {r : ℤ} (g : LeastSoFar w plan nodes i j r) where
       -- After the last node the least is the required time of the stage.
       pub required_end : nodes < j → r ≡ required (net_in w) plan (drives (net_in w) i)
-      required_end b = terminals_end g.scan A (omega (arith, T.held.nodes-are)) (drives-below (net_in w) i (inside h))
+      required_end b = terminals_end g.scan A (omega (arith, H.nodes-are)) (drives-below (net_in w) i (inside h))
 
       module _ (b : j ≤ nodes) where
         -- A terminal of the stage comes after the root.

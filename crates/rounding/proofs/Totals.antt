@@ -2,7 +2,7 @@
 use mathlib.Core.Path.{◌≡◌, refl, sym, subst, ◌∙◌}
 use mathlib.Core.List.{List, [], ◌∷◌, map}
 use mathlib.Core.Logic.{◌⊎◌, inl, inr}
-use Prim.Native.Nat.{ℕ, zero, suc, ◌+◌, ◌*◌, ◌-◌, ◌/◌, ◌^◌, ◌≤◌, ◌<◌, min}
+use Prim.Native.Nat.{ℕ, zero, suc, ◌+◌, ◌*◌, ◌-◌, ◌/◌, ◌^◌, ◌≤◌, ◌<◌}
 use native.Mathlib.Omega.{arith}
 use native.Mathlib.Nat.{div-le_self, zero-add}
 use lib.ListN.{length, get_or}
@@ -29,9 +29,6 @@ pub record Total (f : ℕ → ℕ) (stages total i : ℕ) : Type 0 where
   pub inside : i ≤ stages
   pub is : total ≡ sum (map f (from 0 i))
   pub most : total ≤ i * 2 ^ max_exponent
-
-pub total-start : (f : ℕ → ℕ) (stages : ℕ) → Total f stages 0 0
-total-start f stages = record { inside = omega arith; is = refl; most = omega arith }
 
 pub total-more : {f : ℕ → ℕ} {stages total i c : ℕ} → Total f stages total i → i < stages → c ≡ f i → c ≤ 2 ^ max_exponent → Total f stages (total + c) (i + 1)
 total-more {f} {stages} {total} {i} {c} S h e m =
@@ -92,12 +89,6 @@ pub record Least (f : ℕ → ℕ) (layers least l : ℕ) : Type 0 where
   pub inside : l ≤ layers
   pub is : least ≡ least_up_to (f 0) f l
 
-pub least_start : (cost : List ℕ) (layers g i : ℕ) → 0 < layers → Least (λ l. on_layer cost i l / g) layers (get_or cost (i * max_layers) 0 / g) 1
-least_start cost layers g i h = let z : i * max_layers + 0 ≡ i * max_layers = omega arith in record { inside = omega arith; is = rw z (omega arith) }
-
-pub least_more : {f : ℕ → ℕ} {layers least l m : ℕ} → Least f layers least l → l < layers → m ≡ min least (f l) → Least f layers m (l + 1)
-least_more {l = l} L h e = let z : l + 1 ≡ suc l = omega arith in record { inside = omega arith; is = rw z (omega (arith, L.is)) }
-
 pub least_end : {f : ℕ → ℕ} {layers least l : ℕ} → 0 < layers → Least f layers least l → layers ≤ l → least ≡ lowest f (from 0 layers)
 least_end {layers = zero} h L m = absurd (omega arith)
 least_end {f = f} {layers = suc n} {least = least} {l = l} h L m =
@@ -118,9 +109,6 @@ pub record TakenOff (cost : List ℕ) (stages layers g : ℕ) (before slice : Li
   pub sum_is : Total (least_slice cost layers g) stages total i
   pub long : length slice ≡ length before
   pub rows : (j l : ℕ) → j < i → l < layers → on_layer slice j l ≡ on_layer cost j l / g - least_slice cost layers g j
-
-pub taken_start : (cost : List ℕ) (stages layers g : ℕ) (before : List ℕ) → TakenOff cost stages layers g before before 0 0
-taken_start cost stages layers g before = record { sum_is = total-start _ stages; long = refl; rows = λ j l h b. absurd (omega arith) }
 
 module _ {cost before : List ℕ} {stages layers g : ℕ} (I : ExcessIn cost stages layers g before) where
   pub cost-row : (i : ℕ) → i < stages → CostRow cost layers g i

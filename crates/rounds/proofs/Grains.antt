@@ -2,12 +2,14 @@
 -- is spent above it, and the plan that 01 chooses is the one read off them.
 use mathlib.Core.Path.{◌≡◌, refl, sym, ◌∙◌}
 use mathlib.Core.List.{List}
+use Rattle.std.specs.Prelude.{Some, None}
 use Prim.Native.Nat.{ℕ, suc, ◌+◌, ◌-◌, ◌*◌, ◌/◌, ◌^◌, ◌≤◌, ◌<◌, min}
 use native.Mathlib.Omega.{arith}
 use native.Mathlib.Nat.{mul-le-mul_left, mul-le-mul_right, pow-suc}
 use lib.ListN.{length}
 use lib.IntN.{ℤ}
 use lib.Pow.{pow_pos}
+use Rattle.std.proofs.Common.{SFits, w64, to_z, of_z, to_z-of_z}
 use Rattle.laws.specs.Sums.{sum_mono}
 use Rattle.laws.specs.Basic.{from}
 use Rattle.rules.specs.Bytes.{max_stages}
@@ -21,8 +23,8 @@ use Rattle.fanout.specs.Clauses.{Linked}
 use Rattle.slices.specs.Laid.{LaidDelays}
 use Rattle.readoff.specs.Clauses.{ReadIn, PlanRead}
 use Rattle.rounding.specs.Clauses.{Costs, plan_in, PricedPlan, Excess}
-use Rattle.rounds.specs.Problem.{Numbers}
-use Rattle.rounds.specs.Clauses.{RoundIn, Round, Known, PlanAt}
+use Rattle.rounds.specs.Problem.{Numbers, numbers-same}
+use Rattle.rounds.specs.Clauses.{RoundIn, ValueAt, Known, PlanAt}
 use Rattle.rounds.proofs.Rounds.{round_value, read_in, round_first}
 
 -- Taking costs off leaves drivers and delays.
@@ -59,6 +61,16 @@ module _ {driver delay : List ℕ} {limit : List ℤ} {cost : List ℕ} {stages 
   pub priced-plan : {T : StageTree} {plan : List ℕ} {g : ℕ} → Numbers T driver delay limit cost stages layers arrival → stages ≤ length plan
       → MeetingPlan T (plan_in stages plan) → 0 < g → PricedPlan cost plan stages g
   priced-plan {T} N long M h = record { tree = T; costs = costs_of N; long = long; meets = M; some-grain = h }
+
+  -- The same numbers with the arrival time as it is lent on.
+  pub numbers-kept : {T : StageTree} → SFits w64 arrival → Numbers T driver delay limit cost stages layers arrival
+      → Numbers T driver delay limit cost stages layers (to_z w64 (of_z w64 arrival))
+  numbers-kept h N = numbers-same (to_z-of_z h) N
+
+  -- What is taken off at the grain.
+  pub taken_off : {T : StageTree} {k g base : ℕ} {slice : List ℕ} → Numbers T driver delay limit cost stages layers arrival → g ≡ 2 ^ k
+      → ((T : StageTree) (k : ℕ) → Costs T cost stages → layers ≡ T.layers → g ≡ 2 ^ k → Excess T k slice base) → Excess T k slice base
+  taken_off {T} {k} N e E = E T k (costs_of N) N.layers-are e
 
   -- The slices with the costs that are left hold the numbers of the tree with these costs.
   pub excess-numbers : {T : StageTree} {k base : ℕ} {slice : List ℕ} → Numbers T driver delay limit cost stages layers arrival
@@ -105,8 +117,8 @@ module _ {driver delay : List ℕ} {limit : List ℤ} {cost : List ℕ} {stages 
     within_bound = omega (arith, value_le T k (plan_in stages known) K.meets, K.bound_is)
 
     -- What is taken off already needs all columns.
-    pub none_left : {after : List ℕ} {columns : ℕ} → columns ≤ base → PlanAt T k columns stages after columns
-    none_left h = record { is = omega (arith, value-is); chosen = λ b. absurd (omega arith) }
+    pub none_left : (after : List ℕ) {columns : ℕ} → columns ≤ base → PlanAt T k columns stages after None
+    none_left after h = omega (arith, value-is)
 
     -- What is taken off is within the bound.
     pub base-within : base ≤ bound
@@ -136,31 +148,28 @@ module _ {driver delay : List ℕ} {limit : List ℤ} {cost : List ℕ} {stages 
           some-grain = omega arith;
         }
 
-        module _ {starts ends : List ℕ} {spent : ℕ} (R : Round (excess T k) 0 width table starts ends spent) where
-          spent_is : spent ≡ min (value (excess T k) 0) width
-          spent_is = round_value left some-width R (plan_in stages known) left_meets
+        -- V(k) is past the columns.
+        pub all_spent : (after : List ℕ) {starts ends : List ℕ} → ValueAt (excess T k) 0 width table starts ends None → PlanAt T k columns stages after None
+        all_spent after R = let past = round_value None left some-width R (plan_in stages known) left_meets in omega (arith, value-is, within_bound)
 
-          -- V(k) is past the columns.
-          pub all_spent : {after : List ℕ} → spent ≡ width → PlanAt T k columns stages after columns
-          all_spent e = record { is = omega (arith, value-is, within_bound, spent_is); chosen = λ b. absurd (omega arith) }
+        module _ {starts ends : List ℕ} {spent : ℕ} (R : ValueAt (excess T k) 0 width table starts ends (Some spent)) where
+          spent_is : (spent ≡ value (excess T k) 0) × (spent < width)
+          spent_is = round_value (Some spent) left some-width R (plan_in stages known) left_meets
 
-          module _ (n : spent ≡ width → ⊥) where
-            fits : spent < width
-            fits = omega (arith, spent_is)
+          pub reading : {first next : List ℕ} {times : List ℤ} {plan : List ℕ} → Linked driver first next stages → length times ≡ max_stages
+              → stages ≤ length plan → ReadIn table driver first next delay limit slice starts ends stages layers width 1 arrival times plan
+          reading L = read_in left R L refl room-left
 
-            pub reading : {first next : List ℕ} {times : List ℤ} {plan : List ℕ} → Linked driver first next stages → length times ≡ max_stages
-                → stages ≤ length plan → ReadIn table driver first next delay limit slice starts ends stages layers width 1 arrival times plan
-            reading L = read_in left R L refl fits room-left
+          pub plan-at : {first next before after : List ℕ} → Linked driver first next stages
+              → PlanRead table driver first next delay limit slice starts ends stages layers width 1 arrival before after
+              → PlanAt T k columns stages after (Some (base + spent))
+          plan-at L P = record {
+            is = omega (arith, value-is, spent_is);
+            fits = omega (arith, spent_is);
+            chosen =
+                sym (first-excess T k (plan_in stages known) K.meets)
+                ∙ round_first left R L refl room-left (plan_in stages known) left_meets P;
+          }
 
-            pub plan-at : {first next before after : List ℕ} → Linked driver first next stages
-                → PlanRead table driver first next delay limit slice starts ends stages layers width 1 arrival before after
-                → PlanAt T k columns stages after (base + spent)
-            plan-at L P = record {
-              is = omega (arith, value-is, spent_is);
-              chosen = λ b.
-                  sym (first-excess T k (plan_in stages known) K.meets)
-                  ∙ round_first left R L refl fits room-left (plan_in stages known) left_meets P;
-            }
-
-            pub sum-small : base + spent ≤ bound
-            sum-small = omega (arith, value-is, within_bound, spent_is)
+          pub sum-small : base + spent ≤ bound
+          sum-small = omega (arith, value-is, within_bound, spent_is)

@@ -8,6 +8,7 @@ use Rattle.rules.specs.Bytes.{max_time}
 use Rattle.rules.specs.Grain.{max_exponent}
 use Rattle.rules.specs.Planning.{max_share}
 use Rattle.oracle.specs.Stages.{StageTree, WellFormed, plan_costs}
+use Rattle.slices.specs.declared.Tree.{Tree}
 use Rattle.slices.specs.Laid.{max_entry, no_limit, time_at, Laid}
 use Rattle.bands.specs.Entries.{never}
 use Rattle.rows.specs.Clauses.{Represents}
@@ -21,6 +22,10 @@ pub record Numbers (T : StageTree) (driver delay : List ℕ) (limit : List ℤ) 
   pub layers-are : layers ≡ T.layers
   pub arrival-is : arrival ≡ T.arrival
   pub cheap : (x : List ℕ) → sum (plan_costs T x) < 2 ^ max_exponent
+
+-- The same of the tree as it is lent.
+abbrev pub NumbersOf : StageTree → Tree → Type 0
+NumbersOf T tree = Numbers T tree.driver.now tree.delay.now tree.limit.now tree.cost.now tree.stages tree.layers tree.arrival
 
 -- The same with a share p/q (01, Planning: p up to max_share, q from 1 to max_share).
 pub record Problem (T : StageTree) (driver delay : List ℕ) (limit : List ℤ) (cost : List ℕ) (stages layers : ℕ) (arrival : ℤ) (p q : ℕ) : Type 0 where

@@ -1,24 +1,32 @@
 -- What planning a net by rounds is given and gives: the answer of 02, wish 7, and the buffer and the table it leaves.
-use Rattle.std.specs.Prelude.{◌≡◌, refl, true, false, List, ◌++◌, ℕ, ◌-◌, ◌*◌, ◌≤◌, leb, eqb, length, take, drop, replicate, ℤ, pos}
+use Rattle.std.specs.Prelude.{◌≡◌, refl, true, false, List, ◌++◌, ℕ, ◌-◌, ◌*◌, ◌≤◌, leb, eqb, length, take, drop, replicate, ℤ, pos, Result, Ok, Err}
 use Rattle.std.proofs.Common.{ap, sym, ◌∙◌, arith, le-leb}
 use Rattle.laws.specs.Basic.{within}
 use Rattle.rules.specs.declared.RoundsPlanned.{RoundsPlanned}
+use Rattle.rules.specs.declared.Refusal.{Refusal}
+use Rattle.rules.specs.Refusals.{number_of}
 use Rattle.rules.specs.Tree.{Net, stages}
 use Rattle.rules.specs.Timing.{cost, slack}
 use Rattle.rules.specs.Reading.{accept, refuse, read}
 use Rattle.rules.specs.Planning.{cleared}
 use Rattle.rules.specs.Rounds.{max_rounds, last_run, highest_floor, RoundsChoice, planned_rounds, plan_rounds, rounds_answer}
 use Rattle.words.specs.Words.{net_in}
+use Rattle.words.specs.Net.{net_of}
 use Rattle.words.specs.Held.{Held, held-accepted}
 use Rattle.tree.specs.Plans.{Fitting}
+use Rattle.tree.specs.Staged.{Staged}
 use Rattle.demands.specs.StageNumbers.{tree_of}
 use Rattle.demands.specs.RoundsCall.{rounds_in, rounds_11, rounds_12, rounds_pass, rounds_refused, rounds-accepted, rounds-refused}
 use Rattle.slices.specs.Laid.{Laid}
 use Rattle.rounds.specs.Problem.{Numbers}
-use Rattle.search.specs.Planned.{IsLate}
+use Rattle.search.specs.Planned.{IsLate, refusal_of}
+use Rattle.search.specs.declared.Unplanned.{Unplanned}
+use Rattle.search.specs.declared.Unplanned.TheVariants.{Late, Short}
+use Rattle.planning.specs.declared.JudgedPlan.{JudgedPlan}
+use Rattle.planning.specs.declared.StagedNet.{StagedNet}
 use Rattle.planning.specs.Outcomes.{numbers_of, none-meets}
 use Rattle.planning.specs.Calls.{plan-fitting}
-use Rattle.rounds_search.specs.Planned.{NoColumn, IsBest}
+use Rattle.rounds_search.specs.Planned.{NoColumn, IsBest, BestPlanned}
 use Rattle.rounds_planning.specs.Outcomes.{columnless, BestServed, best-served}
 
 -- What is known past refusals 1 to 6, 14 and 10: the array holds a net, r is in its range, the plan buffer has room.
@@ -29,6 +37,10 @@ pub record RoundsAdmitted (w : List ℕ) (nodes layers s r room : ℕ) : Type 0 
   pub most-rounds : r ≤ max_rounds
   pub room-enough : s ≤ room
 
+-- The same of a net as it is lent on, the stage of each edge being known.
+abbrev pub NetRuns : StagedNet → (r room : ℕ) → Type 0
+NetRuns n r room = RoundsAdmitted n.net.words.now n.net.nodes n.net.layers n.stages r room × Staged (net_of n.net) n.stage.now n.below.now
+
 -- The numbers that the rounds are given.
 pub numbers_in_lem : {w : List ℕ} {nodes layers s r room : ℕ} → RoundsAdmitted w nodes layers s r room → {driver wire : List ℕ} {limit : List ℤ} {costs : List ℕ}
     → Laid (tree_of (net_in w)) driver wire limit costs → {a : ℤ} → a ≡ (net_in w).driver.arrival → Numbers (tree_of (net_in w)) driver wire limit costs s layers a
@@ -37,6 +49,11 @@ numbers_in_lem G laid e = numbers_of (held-accepted G.held) laid G.stages-are G.
 -- The answer with what it leaves in table and buffer is that of 02.
 abbrev pub PlansRounds : List ℕ → ℕ → List ℤ → List ℤ → List ℕ → List ℕ → RoundsPlanned → Type 0
 PlansRounds bs r table tableAfter buffer bufferAfter a = rounds_answer a bufferAfter tableAfter ≡ plan_rounds bs r table buffer
+
+-- The answer: the cheapest plan found with refusal 0 and the rounds run, or the refusal's number and zeros.
+abbrev pub rounds_told : Result JudgedPlan Refusal → RoundsPlanned
+rounds_told (Ok x) = record { refusal = 0; cost = x.cost; slack = x.slack; floor = x.floor; rounds = max_rounds - x.k }
+rounds_told (Err why) = rounds_refused (number_of why)
 
 -- What the rounds found, for the net in an array: the cheapest plan.
 module _ {w : List ℕ} {nodes layers s r : ℕ} (table : List ℤ) (buffer : List ℕ) (G : RoundsAdmitted w nodes layers s r (length buffer))
@@ -90,6 +107,12 @@ module _ (bs : List ℕ) (r : ℕ) (table : List ℤ) (buffer : List ℕ) where
         let e = rounds_12 bs r (length table) (length buffer) hold in_range roomy C.some-meets C.no_column in
         rw (I.cleared, I.plan-kept) (sym (rounds-refused bs r table buffer e))
 
+    pub rounds-unplanned : {after : List ℤ} {bufferAfter : List ℕ} (why : Unplanned)
+        → BestPlanned (tree_of n) (last_run r) s table after buffer bufferAfter (Err why)
+        → PlansRounds bs r table after buffer bufferAfter (rounds_told (Err (refusal_of why)))
+    rounds-unplanned Late I = rounds-late I
+    rounds-unplanned Short I = rounds-short I
+
     module _ {k g v : ℕ} {after : List ℤ} {bufferAfter : List ℕ} (I : IsBest (tree_of n) (last_run r) s table after buffer bufferAfter k g v) where
       abbrev B : BestServed (held-accepted G.held) r (length table) k g v buffer bufferAfter
       B = best_of_net table buffer G I
@@ -105,3 +128,9 @@ module _ (bs : List ℕ) (r : ℕ) (table : List ℤ) (buffer : List ℕ) where
           → PlansRounds bs r table after buffer bufferAfter (record { refusal = 0; cost = c; slack = t; floor = g * v; rounds = max_rounds - k })
       rounds-judged ec et =
           rw (ec ∙ ap (cost n) (best-plan-here table buffer G I), et ∙ ap (slack n) (best-plan-here table buffer G I)) rounds-found
+
+      -- The same of the plan that was found, as it is told.
+      pub rounds-found-told : {x : JudgedPlan}
+          → x ≡ record { cost = cost n (take s bufferAfter); slack = slack n (take s bufferAfter); k = k; floor = g * v }
+          → PlansRounds bs r table after buffer bufferAfter (rounds_told (Ok x))
+      rounds-found-told e = rw e (rounds-judged refl refl)

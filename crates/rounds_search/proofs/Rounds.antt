@@ -19,7 +19,7 @@ use Rattle.oracle.specs.Value.{plan_rounded, value, first_plan, MeetingPlan, fir
 use Rattle.oracle.specs.Rounds.{plan_cost, cost-at-one, tree_best, best-first, best-more, first-kept}
 use Rattle.rounding.specs.Clauses.{Costs, plan_in, PricedPlan}
 use Rattle.rounds.specs.Problem.{Numbers}
-use Rattle.rounds.specs.Clauses.{Known, PlanAtIn, PlanAt}
+use Rattle.rounds.specs.Clauses.{Known, PlanAtIn, PlanFound}
 use Rattle.rounds.proofs.Grains.{half-grain, costs_of, priced-plan, bound_small}
 use Rattle.rounds_search.specs.Clauses.{Cheaper, FoundAt, NextIn, RunIn, RoundsFound}
 
@@ -57,17 +57,14 @@ module _ {T : StageTree} {k stages v : ℕ} {known : List ℕ} (F : FoundAt T (s
   found-known = record { meets = found-meets; bound_is = F.value-is ∙ sym (first-meets T (suc k) (plan_in stages known) F.chosen).1 }
 
   -- V(k) is at least twice V(k + 1), and that is past the columns.
-  pub next_hopeless : {columns : ℕ} {after : List ℕ} → columns ≤ 2 * v → PlanAt T k columns stages after columns
-  next_hopeless h = record {
-    is = omega (arith, F.value-is, value-halved T k (plan_in stages known) found-meets);
-    chosen = λ b. absurd (omega arith);
-  }
+  pub next_hopeless : {columns : ℕ} → columns ≤ 2 * v → columns ≤ value T k
+  next_hopeless h = omega (arith, F.value-is, value-halved T k (plan_in stages known) found-meets)
 
   -- The plan found there has no more than twice V(k + 1) at k: it is the one chosen at k too.
-  pub next-is-kept : {columns bound : ℕ} → bound ≡ plan_rounded T k (plan_in stages known) → bound ≡ 2 * v → 2 * v < columns → PlanAt T k columns stages known (2 * v)
+  pub next-is-kept : {columns bound : ℕ} → bound ≡ plan_rounded T k (plan_in stages known) → bound ≡ 2 * v → 2 * v < columns → PlanFound T k columns stages known (2 * v)
   next-is-kept b e h =
       let (value-is, chosen) = first-kept T k F.chosen (omega (arith, F.value-is)) in
-      record { is = omega (arith, F.value-is); chosen = λ _. chosen }
+      record { is = omega (arith, F.value-is); fits = h; chosen = chosen }
 
 module _ {table : List ℤ} {driver delay : List ℕ} {limit : List ℤ} {cost : List ℕ} {stages layers : ℕ} {arrival : ℤ} {half columns v : ℕ} {known : List ℕ}
     (I : NextIn table driver delay limit cost stages layers arrival half columns v known) where
@@ -128,21 +125,19 @@ module _ {T : StageTree} {columns stages : ℕ} {known best : List ℕ} {k g v l
   last_found : FoundAt T (suc k) stages known v
   last_found = record { value-is = R.value-is; chosen = R.here }
 
-  run_more : {next after : List ℕ} {u c : ℕ} → PlanAt T k columns stages next u → (u ≡ columns → ⊥) → Cheaper T stages next best after c
+  run_more : {next after : List ℕ} {u c : ℕ} → PlanFound T k columns stages next u → Cheaper T stages next best after c
       → Run T columns stages next after k (g / 2) u c
-  run_more {next} {after} {u} P n C =
-      let low : u < columns = omega (arith, P.is) in
-      let chosen = P.chosen low in
+  run_more {next} {after} {u} P C =
       let m : max_rounds - k ≡ suc (max_rounds - suc k) = omega (arith, R.most) in
       let back : max_exponent - (max_rounds - suc k) ≡ k = omega (arith, R.most) in
       record {
         most = omega (arith, R.most);
         grain-is = half-grain k R.grain-is;
-        value-is = omega (arith, P.is);
-        fits = low;
-        here = chosen;
+        value-is = P.is;
+        fits = P.fits;
+        here = P.chosen;
         best-is = ap (λ (i : ℕ). tree_best T (due_rounds i)) m ∙
-            (best-more T (max_rounds - suc k) R.best-is (ap (first_plan T) back ∙ chosen) ∙ ap some (sym C.plan-is));
+            (best-more T (max_rounds - suc k) R.best-is (ap (first_plan T) back ∙ P.chosen) ∙ ap some (sym C.plan-is));
         least-is = C.cost-is;
       }
 
@@ -223,43 +218,40 @@ module _ {start : List ℤ} {driver delay : List ℕ} {limit : List ℤ} {cost :
             sized = omega (arith, D.long, f);
           }
 
+      -- The next k needs more columns than there are.
+      pub running_short : ((T : StageTree) (k : ℕ) → Numbers T driver delay limit cost stages layers arrival → g / 2 ≡ 2 ^ k
+          → FoundAt T (suc k) stages known v → columns ≤ value T k) → (T : StageTree) → Numbers T driver delay limit cost stages layers arrival
+          → first_plan T max_exponent ≡ some (plan_in stages first) → RoundsFound T last (length start / (stages + 2)) (plan_in stages best) k g v
+      running_short E T N c = ended_here T N c (λ a. E T (k - 1) N (halved T N c) (last_found (here T N c)))
+
       module _ {u : ℕ} {next : List ℕ}
           (E : (T : StageTree) (k : ℕ) → Numbers T driver delay limit cost stages layers arrival → g / 2 ≡ 2 ^ k → FoundAt T (suc k) stages known v
-          → PlanAt T k columns stages next u) where
+          → PlanFound T k columns stages next u) where
         found_at : (T : StageTree) (N : Numbers T driver delay limit cost stages layers arrival) (c : first_plan T max_exponent ≡ some (plan_in stages first))
-            → PlanAt T (k - 1) columns stages next u
+            → PlanFound T (k - 1) columns stages next u
         found_at T N c = E T (k - 1) N (halved T N c) (last_found (here T N c))
 
-        -- The next k needs more columns than there are.
-        pub running_short : u ≡ columns → (T : StageTree) → Numbers T driver delay limit cost stages layers arrival
-            → first_plan T max_exponent ≡ some (plan_in stages first) → RoundsFound T last (length start / (stages + 2)) (plan_in stages best) k g v
-        running_short e T N c = ended_here T N c (λ a. omega (arith, (found_at T N c).is))
+        next-meets : (T : StageTree) (N : Numbers T driver delay limit cost stages layers arrival) (c : first_plan T max_exponent ≡ some (plan_in stages first))
+            → MeetingPlan T (plan_in stages next)
+        next-meets T N c = (first-meets T (k - 1) (plan_in stages next) (found_at T N c).chosen).0
 
-        module _ (n : u ≡ columns → ⊥) where
-          next-meets : (T : StageTree) (N : Numbers T driver delay limit cost stages layers arrival) (c : first_plan T max_exponent ≡ some (plan_in stages first))
-              → MeetingPlan T (plan_in stages next)
-          next-meets T N c =
-              let P = found_at T N c in
-              (first-meets T (k - 1) (plan_in stages next) (P.chosen (omega (arith, P.is)))).0
+        pub priced-next : RunIn start driver delay limit cost stages layers arrival last first room → length next ≡ length first
+            → PricedPlan cost next stages 1 × (stages ≤ length best)
+        priced-next I l = (
+          priced-plan I.numbers (omega (arith, I.known-long)) (next-meets I.tree I.numbers I.chosen) (omega arith),
+          omega (arith, D.best-long, I.best-long),
+        )
 
-          pub priced-next : RunIn start driver delay limit cost stages layers arrival last first room → length next ≡ length first
-              → PricedPlan cost next stages 1 × (stages ≤ length best)
-          priced-next I l = (
-            priced-plan I.numbers (omega (arith, I.known-long)) (next-meets I.tree I.numbers I.chosen) (omega arith),
-            omega (arith, D.best-long, I.best-long),
-          )
-
-          pub running_more : {tableAfter : List ℤ} {after : List ℕ} {c : ℕ} → last < k → length tableAfter ≡ length start → length next ≡ length first
-              → length after ≡ length room
-              → ((T : StageTree) → Costs T cost stages → MeetingPlan T (plan_in stages next) → least ≡ plan_cost T (plan_in stages best)
-              → Cheaper T stages next best after c)
-              → Running start driver delay limit cost stages layers arrival last first room columns tableAfter next after (k - 1) (g / 2) u c
-          running_more less a b l C = record {
-            long = a;
-            known-long = b;
-            best-long = l;
-            columns-are = D.columns-are;
-            due = omega arith;
-            run = λ T N f.
-                run_more (here T N f) (found_at T N f) n (C T (costs_of N) (next-meets T N f) (D.run T N f).least-is);
-          }
+        pub running_more : {tableAfter : List ℤ} {after : List ℕ} {c : ℕ} → last < k → length tableAfter ≡ length start → length next ≡ length first
+            → length after ≡ length room
+            → ((T : StageTree) → Costs T cost stages → MeetingPlan T (plan_in stages next) → least ≡ plan_cost T (plan_in stages best)
+            → Cheaper T stages next best after c)
+            → Running start driver delay limit cost stages layers arrival last first room columns tableAfter next after (k - 1) (g / 2) u c
+        running_more less a b l C = record {
+          long = a;
+          known-long = b;
+          best-long = l;
+          columns-are = D.columns-are;
+          due = omega arith;
+          run = λ T N f. run_more (here T N f) (found_at T N f) (C T (costs_of N) (next-meets T N f) (D.run T N f).least-is);
+        }

@@ -1,15 +1,17 @@
 -- What the rounds down the k's ask and give. `columns` is how many columns the table has, `last` the k of the last round that is due.
-use Rattle.std.specs.Prelude.{◌≡◌, List, ℕ, suc, ◌+◌, ◌-◌, ◌*◌, ◌^◌, ◌≤◌, ◌<◌, ltb, length, ℤ, if◌then◌else◌}
+use Rattle.std.specs.Prelude.{◌≡◌, List, ℕ, suc, ◌+◌, ◌-◌, ◌*◌, ◌^◌, ◌≤◌, ◌<◌, ltb, length, ℤ, if◌then◌else◌, Result, Ok, Err}
 use Rattle.std.proofs.Math.Option.{some}
 use Rattle.rules.specs.Grain.{max_exponent}
 use Rattle.rules.specs.Rounds.{max_rounds, due_rounds}
+use Rattle.slices.specs.declared.Tree.{Tree}
 use Rattle.oracle.specs.Stages.{StageTree}
 use Rattle.oracle.specs.Value.{value, first_plan}
 use Rattle.oracle.specs.Rounds.{plan_cost, tree_best}
 use Rattle.rounding.specs.Clauses.{plan_in}
 use Rattle.rounds.specs.Problem.{Numbers}
-use Rattle.search.specs.declared.Outcome.{Outcome}
-use Rattle.search.specs.declared.Outcome.TheVariants.{Late, Short, Found}
+use Rattle.search.specs.declared.Found.{Found}
+use Rattle.search.specs.declared.Unplanned.{Unplanned}
+use Rattle.search.specs.declared.Unplanned.TheVariants.{Late, Short}
 
 -- keep_cheaper: the plan that is known now takes the place of the best only if it costs less.
 pub record Cheaper (T : StageTree) (stages : ℕ) (known best after : List ℕ) (r : ℕ) : Type 0 where
@@ -33,6 +35,11 @@ pub record NextIn (table : List ℤ) (driver delay : List ℕ) (limit : List ℤ
   pub long : stages ≤ length known
   pub sized : (stages + 2) * columns ≤ length table
 
+-- The same of the tree as it is lent.
+abbrev pub NextRoundOf : List ℤ → Tree → (half columns v : ℕ) → List ℕ → Type 0
+NextRoundOf table tree half columns v known =
+    NextIn table tree.driver.now tree.delay.now tree.limit.now tree.cost.now tree.stages tree.layers tree.arrival half columns v known
+
 pub next-same : {table : List ℤ} {driver delay : List ℕ} {limit : List ℤ} {cost : List ℕ} {stages layers : ℕ} {arrival a : ℤ} {half columns v : ℕ} {known : List ℕ}
     → a ≡ arrival → NextIn table driver delay limit cost stages layers arrival half columns v known
     → NextIn table driver delay limit cost stages layers a half columns v known
@@ -48,6 +55,10 @@ pub record RunIn (table : List ℤ) (driver delay : List ℕ) (limit : List ℤ)
   pub some-column : stages + 2 ≤ length table
   pub known-long : stages ≤ length known
   pub best-long : stages ≤ length best
+
+abbrev pub RunOf : List ℤ → Tree → (last : ℕ) → (known best : List ℕ) → Type 0
+RunOf table tree last known best =
+    RunIn table tree.driver.now tree.delay.now tree.limit.now tree.cost.now tree.stages tree.layers tree.arrival last known best
 
 pub run-same : {table : List ℤ} {driver delay : List ℕ} {limit : List ℤ} {cost : List ℕ} {stages layers : ℕ} {arrival a : ℤ} {last : ℕ} {known best : List ℕ}
     → a ≡ arrival → RunIn table driver delay limit cost stages layers arrival last known best
@@ -77,7 +88,7 @@ pub record RoundsFound (T : StageTree) (last columns : ℕ) (best : List ℕ) (k
   pub fits : v < columns
   pub best-is : tree_best T (due_rounds (max_rounds - k)) ≡ some best
 
-abbrev pub Ran : StageTree → ℕ → ℕ → ℕ → List ℕ → Outcome → Type 0
-Ran T last columns stages best Late = ⊥
-Ran T last columns stages best Short = ⊥
-Ran T last columns stages best (Found k g v) = RoundsFound T last columns (plan_in stages best) k g v
+abbrev pub Ran : StageTree → ℕ → ℕ → ℕ → List ℕ → Result Found Unplanned → Type 0
+Ran T last columns stages best (Err Late) = ⊥
+Ran T last columns stages best (Err Short) = ⊥
+Ran T last columns stages best (Ok f) = RoundsFound T last columns (plan_in stages best) f.k f.g f.value

@@ -1,14 +1,7 @@
 -- One layer of a stage: what it adds to the row that holds the layers before it.
-use mathlib.Core.Path.{◌≡◌, refl, ap, sym, ◌∙◌, subst}
-use mathlib.Core.Bool.{true}
-use mathlib.Core.List.{List}
-use mathlib.Core.Logic.{inl, inr}
-use Prim.Native.Nat.{ℕ, suc, ◌+◌, ◌-◌, ◌*◌, ◌/◌, ◌^◌, ◌≤◌, ◌<◌, min}
-use native.Mathlib.Omega.{arith}
-use native.Mathlib.Decide.{dec_le}
-use lib.ListN.{length}
-use lib.IntN.{ℤ, pos, ◌-ℤ◌}
-use lib.Signed.{le_z, lt_z}
+use Rattle.std.proofs.Common.{◌≡◌, refl, ap, sym, ◌∙◌, subst, true, List, inl, inr, ℕ, suc, ◌+◌, ◌-◌, ◌*◌, ◌/◌, ◌^◌, ◌≤◌, ◌<◌, min, arith, length, ℤ, pos, ◌-ℤ◌}
+use Rattle.std.proofs.Math.Decide.{dec_le}
+use Rattle.std.specs.Int.Signed.{le_z, lt_z}
 use Rattle.laws.specs.Integers.{le_true, le_false, false_le, lt_true}
 use Rattle.rules.specs.Bytes.{max_layers}
 use Rattle.oracle.specs.Stages.{StageTree}
@@ -47,15 +40,8 @@ module _ {table : List ℤ} {driver first next delay : List ℕ} {limit : List �
   few-layers : l < max_layers
   few-layers = omega (arith, on-layer, I.asks.rows.laid.delays.few-layers)
 
-  pub layer-sizes : (i * max_layers + l < length cost) × (i * max_layers + l < length limit)
-      × (i * width + width ≤ stages * width) × (stages * width + (width + width) ≤ length table)
-  layer-sizes =
-      let W = I.asks.rows in (
-        omega (arith, W.laid.costs.cost-long, few-layers, in_tree),
-        omega (arith, W.laid.limit_long, few-layers, in_tree),
-        row_ends width i stages I.asks.stage,
-        omega (arith, W.sized),
-      )
+  limit_in : i * max_layers + l < length limit
+  limit_in = omega (arith, I.asks.rows.laid.limit_long, few-layers, in_tree)
 
   pub branches_in : c < width → BranchesIn table driver first next delay limit starts ends stages width (width - c) i l
   branches_in cheap = let W = I.asks.rows in record {
@@ -67,7 +53,7 @@ module _ {table : List ℤ} {driver first next delay : List ℕ} {limit : List �
     starts_long = W.starts_long;
     ends-long = W.ends-long;
     delays = λ j a b. omega (arith, W.laid.delays.delay-long, W.stages-are, few-layers);
-    limits = layer-sizes.1;
+    limits = limit_in;
     delay-range = λ j a b. delay_in_range W.laid.delays j l (omega arith) (omega (arith, W.stages-are)) on-layer;
     limit_range = limit_in_range W.laid i l in_tree on-layer;
     bands = I.asks.finished;
@@ -108,8 +94,8 @@ module _ {table : List ℤ} {driver first next delay : List ℕ} {limit : List �
   -- A layer: its bands are merged in `joined`, the row is widened in `wide`.
   module _ {joined : List ℤ} {to : ℤ} {row start end over : ℕ} (cheap : c < width)
       (J : Joined table joined driver delay limit starts ends stages width (width - c) i l to row start end over) where
-    pub widen_in : i * width + (c + end) ≤ length joined
-    widen_in = omega (arith, J.kept.long, J.fits, layer-sizes.2, layer-sizes.3)
+    widen_in : i * width + (c + end) ≤ length joined
+    widen_in = omega (arith, J.kept.long, J.fits, row_ends width i stages I.asks.stage, I.asks.rows.sized)
 
     module _ {wide : List ℤ} {top' : ℕ} (X : Widened joined wide (i * width) top (c + end) top') where
       top_in : top' ≤ width

@@ -1,15 +1,7 @@
 -- What the rows mean in the tree: the merged row of a layer stands for what the recursion asks on that layer besides the rounded cost, and the best of all
 -- layers for what it gives.
-use mathlib.Core.Path.{◌≡◌, ap, sym, ◌∙◌}
-use mathlib.Core.Bool.{true}
-use mathlib.Core.List.{List, [], ◌∷◌, map}
-use Prim.Native.Nat.{ℕ, suc, ◌+◌, ◌-◌, ◌*◌, ◌/◌, ◌^◌, ◌≤◌, ◌<◌, min}
-use native.Mathlib.Omega.{arith}
-use lib.Dec.{eqb, leb}
-use lib.ListN.{get_or}
-use lib.IntN.{ℤ, pos, ◌+ℤ◌}
-use lib.Signed.{le_z}
-use borrow.Author.Tests.{le-leb}
+use Rattle.std.proofs.Common.{◌≡◌, ap, sym, ◌∙◌, true, List, [], ◌∷◌, map, ℕ, suc, ◌+◌, ◌-◌, ◌*◌, ◌/◌, ◌^◌, ◌≤◌, ◌<◌, min, arith, eqb, leb, get_or, ℤ, pos, ◌+ℤ◌, le-leb}
+use Rattle.std.specs.Int.Signed.{le_z}
 use Rattle.laws.specs.Basic.{from, sum, lowest}
 use Rattle.laws.specs.Booleans.{and_both}
 use Rattle.laws.specs.Integers.{le_trans}

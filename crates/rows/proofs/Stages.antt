@@ -1,18 +1,12 @@
 -- The row of one stage: layer by layer it becomes the best of what the recursion asks on each; then it is raised and cut.
-use mathlib.Core.Path.{◌≡◌, refl, sym, ◌∙◌, subst}
-use mathlib.Core.List.{List}
-use Prim.Native.Nat.{ℕ, suc, ◌+◌, ◌-◌, ◌*◌, ◌≤◌, ◌<◌}
-use native.Mathlib.Omega.{arith}
-use native.Mathlib.Numerals.{add-one}
-use lib.ListN.{length, get_or}
-use lib.IntN.{ℤ}
+use Rattle.std.proofs.Common.{◌≡◌, refl, sym, ◌∙◌, subst, List, ℕ, suc, ◌+◌, ◌-◌, ◌*◌, ◌≤◌, ◌<◌, arith, add-one, length, get_or, ℤ}
 use Rattle.laws.specs.Passing.{least_up_to}
 use Rattle.oracle.specs.Stages.{StageTree}
 use Rattle.oracle.specs.Timing.{least_at}
 use Rattle.oracle.specs.Band.{Marks, band-entries, band-agree, band-raised}
 use Rattle.slices.specs.Laid.{max_entry, time_at}
-use Rattle.bands.specs.Entries.{row_at, InRange, BandIn, row_ends, row_outside, row_unmerged}
-use Rattle.bands.specs.Clauses.{RaiseIn, RaisedRow, Cut}
+use Rattle.bands.specs.Entries.{row_at, InRange, BandIn, row_outside, row_unmerged}
+use Rattle.bands.specs.Clauses.{RaisedRow, Cut}
 use Rattle.rows.specs.Clauses.{RowsIn, StageRowIn, LayerIn, Layered, RowKept, asked_in, BandsFrom, Represents, StageRow}
 use Rattle.rows.proofs.Meaning.{asks_on, asked-from, asked-to, all-layers}
 
@@ -47,18 +41,6 @@ pub record Layering (before : List ℤ) (driver first next delay : List ℕ) (li
       → Marks (asked_in early late i) (width - 1) (row_at table (i * width)) 0 top (λ t. least_up_to (suc (width - 1)) (asks_on T k width i t) l)
 
 module _ {before : List ℤ} {driver first next delay : List ℕ} {limit : List ℤ} {cost starts ends : List ℕ} {stages layers g width i : ℕ} {from to : ℤ} where
-  -- Before the first layer.
-  pub layer-start : StageRowIn before driver first next delay limit cost starts ends stages layers g width i
-      → Layering before driver first next delay limit cost starts ends stages layers g width i from to before 0 0
-  layer-start I = record {
-    asks = I;
-    most = omega arith;
-    fits = omega arith;
-    kept = record { long = refl; others = λ m o q. refl };
-    range = λ w p h. absurd (omega arith);
-    marks = λ T k early late S ef el D. record { sound = λ w a h. absurd (omega arith); met = λ t q h. absurd (omega arith) };
-  }
-
   module _ {table : List ℤ} {top l : ℕ} (L : Layering before driver first next delay limit cost starts ends stages layers g width i from to table top l) where
     -- The rows of later stages are as they were.
     later : (j w : ℕ) → i < j → j < stages → w < width → row_at table (j * width) w ≡ row_at before (j * width) w
@@ -98,17 +80,7 @@ module _ {before : List ℤ} {driver first next delay : List ℕ} {limit : List 
           rw (add-one l) (P.marks T k early late S (p ∙ ef) (q ∙ el) now (λ t. least_up_to (suc (width - 1)) (asks_on T k width i t) l) (L.marks T k early late S ef el D));
     }
 
-    -- After the last layer the row is raised ..
-    pub raise_in : RaiseIn table (i * width) top
-    raise_in = let p = row_ends width i stages L.asks.stage in record {
-      row_in = omega (arith, L.fits, L.kept.long, L.asks.rows.sized);
-      range = L.range;
-    }
-
-    pub cut_in : {after : List ℤ} → RaisedRow table after (i * width) top → i * width + top ≤ length after
-    cut_in R = omega (arith, raise_in.row_in, R.kept.long)
-
-    -- .. and cut.
+    -- After the last layer the row is raised and cut.
     pub layer_end : {after : List ℤ} {from' to' : ℤ} {start end : ℕ} → from' ≡ from → to' ≡ to → layers ≤ l → RaisedRow table after (i * width) top
         → Cut after (i * width) top from' to' start end
         → StageRow before after driver delay limit cost starts ends stages layers g width i from to start end

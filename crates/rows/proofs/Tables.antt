@@ -1,12 +1,5 @@
 -- All rows: those of the stages from i on are finished, and nothing behind the table has changed.
-use mathlib.Core.Path.{◌≡◌, refl, sym, ◌∙◌, subst}
-use mathlib.Core.List.{List}
-use mathlib.Core.Logic.{◌⊎◌, inl, inr}
-use Prim.Native.Nat.{ℕ, ◌+◌, ◌-◌, ◌*◌, ◌≤◌, ◌<◌}
-use native.Mathlib.Omega.{arith}
-use lib.ListN.{length, get_or, set, length-set}
-use lib.Seq.{get_or-set_same, get_or-set_other}
-use lib.IntN.{ℤ, pos}
+use Rattle.std.proofs.Common.{◌≡◌, sym, ◌∙◌, subst, List, ◌⊎◌, inl, inr, ℕ, ◌+◌, ◌-◌, ◌*◌, ◌≤◌, ◌<◌, arith, length, get_or, set, length-set, get_or-set_same, get_or-set_other, ℤ, pos}
 use Rattle.laws.specs.Booleans.{same_or}
 use Rattle.oracle.specs.Stages.{StageTree}
 use Rattle.oracle.specs.Timing.{least_at}
@@ -14,8 +7,7 @@ use Rattle.oracle.specs.Band.{Band, band-entries}
 use Rattle.slices.specs.Laid.{max_entry, time_at}
 use Rattle.bands.specs.Entries.{row_at, InRange, row_ends, row_outside, row_unmerged}
 use Rattle.branches.specs.Clauses.{BandOf}
-use Rattle.rows.specs.Clauses.{RowsIn, FinishedFrom, StageRowIn, asked_in, BandsFrom, Represents, StageRow, AllRows}
-use Rattle.rows.proofs.Stages.{rows_again}
+use Rattle.rows.specs.Clauses.{RowsIn, FinishedFrom, asked_in, BandsFrom, Represents, StageRow, AllRows}
 
 pub record RowsFrom (before : List ℤ) (driver delay : List ℕ) (limit : List ℤ) (cost : List ℕ) (early late : List ℤ) (starts₀ ends₀ : List ℕ)
     (stages layers g width : ℕ) (table : List ℤ) (starts ends : List ℕ) (i : ℕ) : Type 0 where
@@ -28,26 +20,8 @@ pub record RowsFrom (before : List ℤ) (driver delay : List ℕ) (limit : List 
   pub band : (T : StageTree) (k : ℕ) → Represents T k early late driver delay limit cost stages layers g width → BandsFrom T k early late table starts ends width i
 
 module _ {before : List ℤ} {driver delay : List ℕ} {limit : List ℤ} {cost : List ℕ} {early late : List ℤ} {starts₀ ends₀ : List ℕ} {stages layers g width : ℕ} where
-  pub rows_start : RowsFrom before driver delay limit cost early late starts₀ ends₀ stages layers g width before starts₀ ends₀ stages
-  rows_start = record {
-    most = omega arith;
-    long = refl;
-    starts_long = refl;
-    ends-long = refl;
-    beyond = λ m h. refl;
-    range = λ j a b. absurd (omega arith);
-    band = λ T k S j a b. absurd (omega (arith, S.stages-are));
-  }
-
   module _ {first next : List ℕ} {table : List ℤ} {starts ends : List ℕ} {i : ℕ} (I : RowsIn before driver first next delay limit cost starts₀ ends₀ stages layers g width)
       (R : RowsFrom before driver delay limit cost early late starts₀ ends₀ stages layers g width table starts ends i) where
-    pub stage-asks : 0 < i → StageRowIn table driver first next delay limit cost starts ends stages layers g width (i - 1)
-    stage-asks h = record {
-      rows = rows_again I R.long R.starts_long R.ends-long;
-      stage = omega (arith, R.most);
-      finished = λ j a b. R.range j (omega arith) b;
-    }
-
     -- One row more.
     pub rows_more : {after : List ℤ} {from to : ℤ} {start end : ℕ} → 0 < i → from ≡ time_at early (i - 1) → to ≡ time_at late (i - 1)
         → StageRow table after driver delay limit cost starts ends stages layers g width (i - 1) from to start end

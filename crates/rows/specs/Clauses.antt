@@ -9,6 +9,12 @@ use Rattle.oracle.specs.Band.{Band, Marks}
 use Rattle.oracle.specs.Windows.{Windows}
 use Rattle.fanout.specs.Clauses.{Linked}
 use Rattle.slices.specs.Laid.{Laid, max_entry, no_limit, time_at}
+use Rattle.slices.specs.declared.Tree.{Tree}
+use Rattle.slices.specs.declared.Links.{Links}
+use Rattle.slices.specs.declared.Windows as slices
+use Rattle.slices.specs.declared.Bands.{Bands}
+use Rattle.slices.specs.declared.Round.{Round}
+use Rattle.bands.specs.declared.Span.{Span}
 use Rattle.bands.specs.Entries.{row_at, Outside, never, BandIn}
 use Rattle.branches.specs.Clauses.{BandOf}
 
@@ -99,3 +105,34 @@ pub record AllRows (before after : List ℤ) (driver delay : List ℕ) (limit : 
   pub beyond : (m : ℕ) → (stages + 2) * width ≤ m → get_or after m (pos 0) ≡ get_or before m (pos 0)
   pub range : FinishedFrom after starts ends stages width 0
   pub band : (T : StageTree) (k : ℕ) → Represents T k early late driver delay limit cost stages layers g width → BandsFrom T k early late after starts ends width 0
+
+-- The same of the structs: what the functions ask ..
+abbrev pub RowsOf : List ℤ → Tree → Links → (starts ends : List ℕ) → Round → Type 0
+RowsOf table tree links starts ends n =
+    RowsIn table tree.driver.now links.first.now links.next.now tree.delay.now tree.limit.now tree.cost.now starts ends tree.stages tree.layers n.grain n.width
+
+abbrev pub StageRowInOf : List ℤ → Tree → Links → Bands → Round → ℕ → Type 0
+StageRowInOf table tree links bands n i =
+    StageRowIn table tree.driver.now links.first.now links.next.now tree.delay.now tree.limit.now tree.cost.now bands.starts.now bands.ends.now
+    tree.stages tree.layers n.grain n.width i
+
+abbrev pub LayerOf : List ℤ → Tree → Links → Bands → Round → (i l top : ℕ) → Type 0
+LayerOf table tree links bands n i l top =
+    LayerIn table tree.driver.now links.first.now links.next.now tree.delay.now tree.limit.now tree.cost.now bands.starts.now bands.ends.now
+    tree.stages tree.layers n.grain n.width i l top
+
+-- .. and what they give.
+abbrev pub LayeredOf : (before after : List ℤ) → Tree → Bands → Round → (i l : ℕ) → (first last : ℤ) → (top r : ℕ) → Type 0
+LayeredOf before after tree bands n i l first last top r =
+    Layered before after tree.driver.now tree.delay.now tree.limit.now tree.cost.now bands.starts.now bands.ends.now tree.stages tree.layers n.grain n.width
+    i l first last top r
+
+abbrev pub StageRowOf : (before after : List ℤ) → Tree → Bands → Round → ℕ → (first last : ℤ) → Span → Type 0
+StageRowOf before after tree bands n i first last span =
+    StageRow before after tree.driver.now tree.delay.now tree.limit.now tree.cost.now bands.starts.now bands.ends.now tree.stages tree.layers n.grain n.width
+    i first last span.start span.end
+
+abbrev pub AllRowsOf : (before after : List ℤ) → Tree → slices.Windows → (starts₀ ends₀ starts ends : List ℕ) → Round → Type 0
+AllRowsOf before after tree windows starts₀ ends₀ starts ends n =
+    AllRows before after tree.driver.now tree.delay.now tree.limit.now tree.cost.now windows.early.now windows.late.now starts₀ ends₀ starts ends
+    tree.stages tree.layers n.grain n.width

@@ -3,6 +3,7 @@ pub mod Bytes
 pub mod Timing
 pub mod Grain
 pub mod Reading
+pub mod Refusals
 pub mod Judging
 pub mod Planning
 pub mod Rounds

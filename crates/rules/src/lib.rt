@@ -1,6 +1,9 @@
 // The values and limits of document 01 that code and definitions share. The rules themselves stand in specs/.
 #![tactic(auto)]
 
+ghost use Rattle.std.specs.Prelude.{◌≡◌};
+ghost use Rattle.rules.specs.Refusals.{number_of};
+
 // The ranges and limits of 01, Net bytes (the length's is of 02, wish 3, that of via resistance of 02, wish 5), as code compares with them; specs/Bytes.antt
 // has the same numbers for the definitions.
 pub const MAX_UNIT: u64 = 1_000;
@@ -70,10 +73,59 @@ pub enum Kind {
     },
 }
 
+// Why a call is refused, with the number that it answers (01, Reading, Judging and Planning; 02, wishes 2, 7 and 8; docs/FORMAT.md, section 3). Its
+// number in the definitions: specs/Refusals.antt.
+#[derive(Clone, Copy, Debug, PartialEq, Eq)]
+pub enum Refusal {
+    // The bytes end where a field, or the rest of one, is due.
+    Ended = 1,
+    // The field has a tag, or with this tag a length, that is not allowed there.
+    WrongField = 2,
+    // A number is outside its range.
+    OutOfRange = 3,
+    // There is no room for this node: the 256th after the driver, or the 64th buffer.
+    TooMany = 4,
+    // The node's parent may have no further child.
+    WrongParent = 5,
+    // A node that is no sink has no child.
+    Childless = 6,
+    // The plan has not one layer number for each stage; on a desk, there is no such stage.
+    WrongStages = 7,
+    // There is no such layer.
+    WrongLayer = 8,
+    // The share is outside its range.
+    WrongShare = 9,
+    // The plan buffer is shorter than the number of stages.
+    NoRoom = 10,
+    // No plan meets timing.
+    TooLate = 11,
+    // The table has too few columns.
+    TooShort = 12,
+    // The bytes are no block.
+    NoBlock = 13,
+    // The number of rounds is outside its range.
+    WrongRounds = 14,
+    // A desk takes no net of so many bytes.
+    TooLong = 15,
+    // The desk was never opened.
+    NeverOpened = 16,
+    // The stage is locked.
+    Locked = 17,
+}
+
+impl From<Refusal> for u8 {
+    ghost from_gives = { λ why n. n ≡ number_of why };
+
+    fn from(why: Refusal) -> u8 {
+        why as u8
+    }
+}
+
 // What checking answers (01, Reading): a refusal number, 0 if accepted, and three counts.
 #[repr(C)]
 #[derive(Clone, Copy)]
 pub struct Checked {
+    // Kept: flat and with a number: the C interface and the clauses of the open calls (`check`, `judge`, `plan`, ..) give a refusal number and zeros.
     pub refusal: u8,
     pub nodes: u64,
     pub stages: u64,
@@ -84,6 +136,7 @@ pub struct Checked {
 #[repr(C)]
 #[derive(Clone, Copy)]
 pub struct Judged {
+    // Kept: flat and with a number: the C interface and the clauses of the open calls (`check`, `judge`, `plan`, ..) give a refusal number and zeros.
     pub refusal: u8,
     pub cost: u64,
     pub slack: i64,
@@ -93,6 +146,7 @@ pub struct Judged {
 // 2^k × V(k) (02, wish 6).
 #[derive(Clone, Copy)]
 pub struct Planned {
+    // Kept: flat and with a number: the C interface and the clauses of the open calls (`check`, `judge`, `plan`, ..) give a refusal number and zeros.
     pub refusal: u8,
     pub cost: u64,
     pub slack: i64,
@@ -104,6 +158,7 @@ pub struct Planned {
 // run.
 #[derive(Clone, Copy)]
 pub struct RoundsPlanned {
+    // Kept: flat and with a number: the C interface and the clauses of the open calls (`check`, `judge`, `plan`, ..) give a refusal number and zeros.
     pub refusal: u8,
     pub cost: u64,
     pub slack: i64,
@@ -116,6 +171,7 @@ pub struct RoundsPlanned {
 #[repr(C)]
 #[derive(Clone, Copy)]
 pub struct Report {
+    // Kept: flat and with a number: the C interface and the clauses of the open calls (`check`, `judge`, `plan`, ..) give a refusal number and zeros.
     pub refusal: u8,
     pub nets: u64,
     pub planned: u64,

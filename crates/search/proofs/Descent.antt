@@ -11,18 +11,18 @@ use lib.Dec.{leb, lit<}
 use lib.ListN.{length}
 use lib.IntN.{ℤ}
 use lib.Pow.{pow_pos}
-use borrow.Author.Tests.{le-leb, lt-leb, leb-false}
+use borrow.Author.Tests.{lt-leb, leb-false}
 use Rattle.laws.specs.Booleans.{same_or}
 use Rattle.laws.specs.Quotients.{mul_quotient_le}
 use Rattle.rules.specs.Grain.{max_exponent}
 use Rattle.oracle.specs.Stages.{StageTree, plan_costs}
 use Rattle.oracle.specs.Rounding.{rounded-below}
 use Rattle.oracle.specs.Value.{plan_rounded, value, passes, exponent, MeetingPlan, first-meets, value_le, value-zero, value-exponent, exponent-is}
-use Rattle.rounding.specs.Clauses.{Costs, plan_in, PricedPlan}
+use Rattle.rounding.specs.Clauses.{Costs, plan_in}
 use Rattle.rounds.specs.Problem.{Numbers, Problem}
-use Rattle.rounds.specs.Clauses.{Known, PlanAtIn, PlanAt}
+use Rattle.rounds.specs.Clauses.{Known, PlanAtIn, PlanFound}
 use Rattle.search.specs.Clauses.{TestIn, DescendIn, GrainFound}
-use Rattle.rounds.proofs.Grains.{half-grain, costs_of, priced-plan}
+use Rattle.rounds.proofs.Grains.{half-grain, costs_of}
 
 -- For one tree: the grain is 2^k, and nothing from k up has qualified.
 pub record Above (T : StageTree) (p q k g : ℕ) : Type 0 where
@@ -74,33 +74,21 @@ module _ {T : StageTree} {driver delay : List ℕ} {limit : List ℤ} {cost : Li
         here j a b (inl e) = rw e fails
         here j a b (inr ne) = A.none j (omega arith) b
 
-    module _ {columns v : ℕ} {known : List ℕ} (R : PlanAt T k columns stages known v) where
-      -- The columns are too few.
-      pub descent_short : v ≡ columns → columns < value T (exponent T p q) + 1
-      descent_short e = omega (arith, R.is, value-exponent T p q k (λ j a b. A.none j a b) x M)
+    -- The columns are too few.
+    pub descent_short : {columns : ℕ} → columns ≤ value T k → columns < value T (exponent T p q) + 1
+    descent_short h = omega (arith, value-exponent T p q k (λ j a b. A.none j a b) x M)
 
-      pub value-fits : (v ≡ columns → ⊥) → (v ≡ value T k) × (v < columns)
-      value-fits n = let e = R.is in (omega arith, omega arith)
-
-      pub descent_found : (v ≡ columns → ⊥) → leb (q * stages * (g / 2 - 1)) (p * (g / 2) * v) ≡ true → GrainFound T p q columns stages known k (g / 2) v
-      descent_found n t =
-          let (e, f) = value-fits n in
-          let same : leb (q * stages * (g / 2 - 1)) (p * (g / 2) * v) ≡ passes T p q k = rw (grain-halved, e, P.numbers.stages-are) in
-          record {
-            exponent-is = sym (exponent-is T p q k (omega (arith, A.most)) (sym same ∙ t) (λ j a b. A.none j a b));
-            grain-is = grain-halved;
-            value-is = e;
-            fits = f;
-            chosen = R.chosen f;
-          }
-
-  -- k = 0 always qualifies.
-  pub above-none : {g : ℕ} → Above T p q 0 g → ⊥
-  above-none A =
-      let t = le-leb (q * T.stages * (2 ^ 0 - 1)) (p * 2 ^ 0 * value T 0) (omega arith) in
-      let f = A.none 0 (omega arith) (omega arith) in
-      let y : ◌≡◌ {A = ℕ} 0 1 = cc in
-      omega arith
+    pub descent_found : {columns v : ℕ} {known : List ℕ} → PlanFound T k columns stages known v
+        → leb (q * stages * (g / 2 - 1)) (p * (g / 2) * v) ≡ true → GrainFound T p q columns stages known k (g / 2) v
+    descent_found {v = v} R t =
+        let same : leb (q * stages * (g / 2 - 1)) (p * (g / 2) * v) ≡ passes T p q k = rw (grain-halved, R.is, P.numbers.stages-are) in
+        record {
+          exponent-is = sym (exponent-is T p q k (omega (arith, A.most)) (sym same ∙ t) (λ j a b. A.none j a b));
+          grain-is = grain-halved;
+          value-is = R.is;
+          fits = R.fits;
+          chosen = R.chosen;
+        }
 
 -- The same for every tree that the slices hold, and the plan known so far meets timing; `start` and `first` are table and plan before the descent.
 pub record Descending (start : List ℤ) (driver delay : List ℕ) (limit : List ℤ) (cost : List ℕ) (stages layers : ℕ) (arrival : ℤ) (p q : ℕ) (first : List ℕ)
@@ -119,21 +107,12 @@ module _ {start : List ℤ} {driver delay : List ℕ} {limit : List ℤ} {cost :
 
   module _ {columns k g : ℕ} {table : List ℤ} {known : List ℕ}
       (D : Descending start driver delay limit cost stages layers arrival p q first columns table known k g) where
-    -- k = 0 always qualifies, so the descent does not end without an answer.
-    pub descending_end : k ≡ 0 → (T : StageTree) → Problem T driver delay limit cost stages layers arrival p q → MeetingPlan T (plan_in stages first) → ⊥
-    descending_end e T P M = above-none P M (rw e at (D.above T P M))
-
     module _ (h : 0 < k) where
       here : (T : StageTree) → Problem T driver delay limit cost stages layers arrival p q → MeetingPlan T (plan_in stages first) → Above T p q (suc (k - 1)) g
       here T P M = let e : suc (k - 1) ≡ k = omega arith in rw e (D.above T P M)
 
       halved : (T : StageTree) → Problem T driver delay limit cost stages layers arrival p q → MeetingPlan T (plan_in stages first) → g / 2 ≡ 2 ^ (k - 1)
       halved T P M = grain-halved P M (here T P M)
-
-      pub rounding_in : DescendIn driver delay limit cost stages layers arrival p q first → PricedPlan cost known stages (g / 2)
-      rounding_in I =
-          priced-plan I.problem.numbers (omega (arith, D.known-long, I.long)) (D.meets I.tree I.problem I.meets)
-          (rw (halved I.tree I.problem I.meets) (pow_pos (k - 1)))
 
       -- `bound` is the rounded cost of the known plan.
       module _ {bound : ℕ} (B : (T : StageTree) (k : ℕ) → Costs T cost stages → g / 2 ≡ 2 ^ k → MeetingPlan T (plan_in stages known)
@@ -178,41 +157,39 @@ module _ {start : List ℤ} {driver delay : List ℕ} {limit : List ℤ} {cost :
               sized = omega (arith, D.long, f);
             }
 
+        -- V(k) does not fit the columns.
+        pub turn-short : ((T : StageTree) (k : ℕ) → Numbers T driver delay limit cost stages layers arrival → g / 2 ≡ 2 ^ k → Known T k stages known bound
+            → columns ≤ value T k) → (T : StageTree) → Problem T driver delay limit cost stages layers arrival p q → MeetingPlan T (plan_in stages first)
+            → length start / (stages + 2) < value T (exponent T p q) + 1
+        turn-short E T P M =
+            let few = E T (k - 1) P.numbers (halved T P M) (known_is T P M) in
+            omega (arith, D.columns-are, descent_short P M (here T P M) few)
+
         module _ {v : ℕ} {next : List ℕ}
             (E : (T : StageTree) (k : ℕ) → Numbers T driver delay limit cost stages layers arrival → g / 2 ≡ 2 ^ k → Known T k stages known bound
-            → PlanAt T k columns stages next v) where
+            → PlanFound T k columns stages next v) where
           found_at : (T : StageTree) (P : Problem T driver delay limit cost stages layers arrival p q) (M : MeetingPlan T (plan_in stages first))
-              → PlanAt T (k - 1) columns stages next v
+              → PlanFound T (k - 1) columns stages next v
           found_at T P M = E T (k - 1) P.numbers (halved T P M) (known_is T P M)
 
-          pub turn-short : v ≡ columns → (T : StageTree) → Problem T driver delay limit cost stages layers arrival p q → MeetingPlan T (plan_in stages first)
-              → length start / (stages + 2) < value T (exponent T p q) + 1
-          turn-short e T P M = omega (arith, D.columns-are, descent_short P M (here T P M) (found_at T P M) e)
+          pub turn-test : DescendIn driver delay limit cost stages layers arrival p q first → TestIn p q stages (g / 2) v
+          turn-test I =
+              let P = I.problem in
+              let Q = D.meets I.tree P I.meets in
+              let R = found_at I.tree P I.meets in
+              test_in P Q (here I.tree P I.meets) (omega (arith, R.is, value_le I.tree (k - 1) (plan_in stages known) Q))
 
-          module _ (n : v ≡ columns → ⊥) where
-            pub turn-test : DescendIn driver delay limit cost stages layers arrival p q first → TestIn p q stages (g / 2) v
-            turn-test I =
-                let P = I.problem in
-                let Q = D.meets I.tree P I.meets in
-                let A = here I.tree P I.meets in
-                let (e, f) = value-fits P Q A (found_at I.tree P I.meets) n in
-                test_in P Q A (omega (arith, e, value_le I.tree (k - 1) (plan_in stages known) Q))
+          pub turn-found : leb (q * stages * (g / 2 - 1)) (p * (g / 2) * v) ≡ true → (T : StageTree)
+              → Problem T driver delay limit cost stages layers arrival p q → MeetingPlan T (plan_in stages first)
+              → GrainFound T p q (length start / (stages + 2)) stages next (k - 1) (g / 2) v
+          turn-found t T P M = rw D.columns-are at (descent_found P M (here T P M) (found_at T P M) t)
 
-            pub turn-found : leb (q * stages * (g / 2 - 1)) (p * (g / 2) * v) ≡ true → (T : StageTree)
-                → Problem T driver delay limit cost stages layers arrival p q → MeetingPlan T (plan_in stages first)
-                → GrainFound T p q (length start / (stages + 2)) stages next (k - 1) (g / 2) v
-            turn-found t T P M = rw D.columns-are at (descent_found P M (here T P M) (found_at T P M) n t)
-
-            pub turn_more : {after : List ℤ} → leb (q * stages * (g / 2 - 1)) (p * (g / 2) * v) ≡ false → length after ≡ length start
-                → length next ≡ length first → Descending start driver delay limit cost stages layers arrival p q first columns after next (k - 1) (g / 2)
-            turn_more t e f = record {
-              long = e;
-              known-long = f;
-              columns-are = D.columns-are;
-              above = λ T P M.
-                  let (u, w) = value-fits P M (here T P M) (found_at T P M) n in
-                  above_more P M (here T P M) (omega (arith, u)) t;
-              meets = λ T P M.
-                  let (u, w) = value-fits P M (here T P M) (found_at T P M) n in
-                  (first-meets T (k - 1) (plan_in stages next) ((found_at T P M).chosen w)).0;
-            }
+          pub turn_more : {after : List ℤ} → leb (q * stages * (g / 2 - 1)) (p * (g / 2) * v) ≡ false → length after ≡ length start
+              → length next ≡ length first → Descending start driver delay limit cost stages layers arrival p q first columns after next (k - 1) (g / 2)
+          turn_more t e f = record {
+            long = e;
+            known-long = f;
+            columns-are = D.columns-are;
+            above = λ T P M. above_more P M (here T P M) (omega (arith, (found_at T P M).is)) t;
+            meets = λ T P M. (first-meets T (k - 1) (plan_in stages next) (found_at T P M).chosen).0;
+          }

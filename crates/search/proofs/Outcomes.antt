@@ -6,40 +6,40 @@ use Prim.Native.Nat.{ℕ, ◌+◌, ◌/◌}
 use native.Mathlib.Omega.{arith}
 use lib.ListN.{length, replicate}
 use lib.IntN.{ℤ, pos}
+use Rattle.std.specs.Prelude.{Result, Ok, Err}
 use Rattle.oracle.specs.Stages.{StageTree}
 use Rattle.oracle.specs.Value.{MeetingPlan}
 use Rattle.rounding.specs.Clauses.{plan_in}
-use Rattle.rounds.specs.Problem.{Numbers, problem-same}
+use Rattle.rounds.specs.Problem.{Numbers}
 use Rattle.rounds.specs.Clauses.{Feasible, feasible_meets}
-use Rattle.search.specs.declared.Outcome.{Outcome}
-use Rattle.search.specs.declared.Outcome.TheVariants.{Late, Short, Found}
+use Rattle.search.specs.declared.Found.{Found}
+use Rattle.search.specs.declared.Unplanned.{Unplanned}
+use Rattle.search.specs.declared.Unplanned.TheVariants.{Late, Short}
 use Rattle.search.specs.Clauses.{DescendIn, Searched}
 use Rattle.search.specs.Planned.{SearchIn, Explored, Left, Planned}
 
 -- Where some plan meets timing, the descent has what it asks.
-pub descend_in : {driver delay : List ℕ} {limit : List ℤ} {cost : List ℕ} {stages layers : ℕ} {arrival a : ℤ} {p q : ℕ} {known after : List ℕ} {r : Bool}
-    → a ≡ arrival → SearchIn driver delay limit cost stages layers arrival p q known → length after ≡ length known
-    → ((T : StageTree) → Numbers T driver delay limit cost stages layers a → Feasible T stages after r) → r ≡ true
-    → DescendIn driver delay limit cost stages layers a p q after
-descend_in same I long F e =
-    let P = problem-same same I.problem in
-    record { tree = I.tree; problem = P; long = omega (arith, I.long, long); meets = feasible_meets (F I.tree P.numbers) e }
+pub descend_in : {driver delay : List ℕ} {limit : List ℤ} {cost : List ℕ} {stages layers : ℕ} {arrival : ℤ} {p q : ℕ} {known after : List ℕ} {r : Bool}
+    → SearchIn driver delay limit cost stages layers arrival p q known → length after ≡ length known
+    → ((T : StageTree) → Numbers T driver delay limit cost stages layers arrival → Feasible T stages after r) → r ≡ true
+    → DescendIn driver delay limit cost stages layers arrival p q after
+descend_in I long F e =
+    record { tree = I.tree; problem = I.problem; long = omega (arith, I.long, long); meets = feasible_meets (F I.tree I.problem.numbers) e }
 
 -- What the descent finds is what the search finds: a plan meets timing, so that it is not late.
-pub explored : (T : StageTree) (p q stages : ℕ) (table after : List ℤ) (known : List ℕ) (r : Outcome) (x : List ℕ) → MeetingPlan T x
+pub explored : (T : StageTree) (p q stages : ℕ) (table after : List ℤ) (known : List ℕ) (r : Result Found Unplanned) (x : List ℕ) → MeetingPlan T x
     → Searched T p q (length table / (stages + 2)) stages known r → length after ≡ length table → Explored T p q stages table after known r
-unfolding Explored
-explored T p q stages table after known Late x M s e = absurd s
-explored T p q stages table after known Short x M s e = ((x, M), s, e)
-explored T p q stages table after known (Found k g v) x M s e = (s, e)
+explored T p q stages table after known (Err Late) x M s e = absurd s
+explored T p q stages table after known (Err Short) x M s e = ((x, M), s, e)
+explored T p q stages table after known (Ok f) x M s e = (s, e)
 
 -- With what is left behind it is what planning gives.
-pub tree-planned : (T : StageTree) (p q stages : ℕ) (table mid after : List ℤ) (plan planAfter known : List ℕ) (r : Outcome)
+pub tree-planned : (T : StageTree) (p q stages : ℕ) (table mid after : List ℤ) (plan planAfter known : List ℕ) (r : Result Found Unplanned)
     → Explored T p q stages table mid known r → Left stages known mid after plan planAfter r → Planned T p q stages table after plan planAfter r
-unfolding Explored Left
-tree-planned T p q stages table mid after plan planAfter known Late (none, kept) (a, b) = record { none = none; table_kept = a ∙ kept; plan-kept = b }
-tree-planned T p q stages table mid after plan planAfter known Short (M, few, long) (a, b) = record { meeting = M; few = few; cleared = a ∙ ap (λ (n : ℕ). replicate n (pos 0)) long; plan-kept = b }
-tree-planned T p q stages table mid after plan planAfter known (Found k g v) (G, long) (a, b) = record {
+tree-planned T p q stages table mid after plan planAfter known (Err Late) (none, kept) (a, b) = record { none = none; table_kept = a ∙ kept; plan-kept = b }
+tree-planned T p q stages table mid after plan planAfter known (Err Short) (M, few, long) (a, b) =
+    record { meeting = M; few = few; cleared = a ∙ ap (λ (n : ℕ). replicate n (pos 0)) long; plan-kept = b }
+tree-planned T p q stages table mid after plan planAfter known (Ok f) (G, long) (a, b) = record {
   exponent-is = G.exponent-is;
   grain-is = G.grain-is;
   value-is = G.value-is;

@@ -7,8 +7,7 @@ ghost use Rattle.laws.specs.Basic.{min_z};
 ghost use Rattle.rules.specs.Bytes.{max_layers, max_stages};
 ghost use Rattle.facts.specs.Ranges.{TimeInRange};
 ghost use Rattle.facts.specs.Fits.{half_range};
-ghost use Rattle.words.specs.Words.{net_in};
-ghost use Rattle.words.specs.Held.{Held};
+ghost use Rattle.words.specs.Net.{net_of};
 ghost use Rattle.tree.specs.Staged.{Staged};
 ghost use Rattle.loads.specs.Tables.{NodeRow, RowMost};
 ghost use Rattle.delays.specs.Delayed.{LayerDelays};
@@ -20,18 +19,24 @@ ghost use Rattle.stage_numbers.specs.LimitRows.{lowered};
 ghost use Rattle.stage_numbers.specs.Noted.{NoteIn, Noted};
 
 use rules::Kind;
-use words::node_at;
+use words::Net;
+
+// The delays to the nodes: entry j * layers + l is that to node j on layer l.
+#[derive(Clone, Copy)]
+struct Delays<'a> {
+    layers: usize,
+    delay: &'a [u64],
+}
 
 // The delay to buffer j, on each layer, is the delay to the stage t that it drives.
-fn copy_row(layers: usize, delay: &[u64], j: usize, t: usize, wire: &mut [u64])
-    requires { (layers ≤ max_layers) × NodeRow layers delay.now j × RowOf max_stages max_layers wire.old t }
-    ensures { RowSet 0 max_layers wire.old wire.new t layers (entry layers delay.now j) }
+fn copy_row(delays: &Delays<'_>, j: usize, t: usize, wire: &mut [u64])
+    requires { (delays.now.layers ≤ max_layers) × NodeRow delays.now.layers delays.now.delay.now j × RowOf max_stages max_layers wire.old t }
+    ensures { RowSet 0 max_layers wire.old wire.new t delays.now.layers (entry delays.now.layers delays.now.delay.now j) }
 {
-    let mut l: usize = 0;
-    while l < layers {
-        wire[t * rules::MAX_LAYERS + l] = delay[j * layers + l];
-        l += 1;
-    }
+    let layers = delays.layers;
+    let from = j * layers;
+    let to = t * rules::MAX_LAYERS;
+    wire[to..to + layers].copy_from_slice(&delays.delay[from..from + layers]);
 }
 
 // A limit lowered to what a sink asks, its required time minus the delay to it, if that is less.
@@ -40,31 +45,29 @@ fn lowered_limit(limit: i64, required: i64, delay: u64) -> i64
     ensures { result ≡ min_z limit (required -ℤ pos delay) }
 {
     let asked = required - (delay as i64);
-    if limit <= asked { limit } else { asked }
+    limit.min(asked)
 }
 
 // Sink j sets its stage t a limit on each layer.
-fn lower_limits(layers: usize, delay: &[u64], j: usize, required: i64, t: usize, limit: &mut [i64])
-    requires { (layers ≤ max_layers) × RowMost layers delay.now j half_range × RowOf max_stages max_layers limit.old t × TimeInRange required }
-    ensures { RowSet (pos 0) max_layers limit.old limit.new t layers
-        (lowered layers limit.old delay.now j required t) }
+fn lower_limits(delays: &Delays<'_>, j: usize, required: i64, t: usize, limit: &mut [i64])
+    requires { (delays.now.layers ≤ max_layers) × RowMost delays.now.layers delays.now.delay.now j half_range × RowOf max_stages max_layers limit.old t ×
+        TimeInRange required }
+    ensures { RowSet (pos 0) max_layers limit.old limit.new t delays.now.layers
+        (lowered delays.now.layers limit.old delays.now.delay.now j required t) }
 {
-    let mut l: usize = 0;
-    while l < layers {
+    for l in 0..delays.layers {
         let at = t * rules::MAX_LAYERS + l;
-        let d = delay[j * layers + l];
         let old = limit[at];
-        let new = lowered_limit(old, required, d);
-        limit[at] = new;
-        l += 1;
+        let delay = delays.delay[j * delays.layers + l];
+        limit[at] = lowered_limit(old, required, delay);
     }
 }
 
 // What node j gives: a buffer the driver of the stage below it and the delay to that stage, a sink a limit for the stage above.
+// Kept: three arrays are lent to be written, each with a clause of its own.
 fn note_node(
     kind: Kind,
-    layers: usize,
-    delay: &[u64],
+    delays: &Delays<'_>,
     j: usize,
     above: usize,
     own: usize,
@@ -72,32 +75,23 @@ fn note_node(
     wire: &mut [u64],
     limit: &mut [i64],
 )
-    requires { NoteIn kind layers delay.now j above own driver.old wire.old limit.old }
-    ensures { Noted kind layers delay.now j above own driver.old wire.old limit.old
-        driver.new wire.new limit.new }
+    requires { NoteIn kind delays.now.layers delays.now.delay.now j above own driver.old wire.old limit.old }
+    ensures { Noted kind delays.now.layers delays.now.delay.now j above own driver.old wire.old limit.old driver.new wire.new limit.new }
 {
     match kind {
         Kind::Steiner => {}
-        Kind::Buffer {
-            input_cap: _,
-            gate_res: _,
-            intrinsic: _,
-        } => {
+        Kind::Buffer { .. } => {
             driver[own] = above;
-            copy_row(layers, delay, j, own, wire);
+            copy_row(delays, j, own, wire);
         }
-        Kind::Sink {
-            input_cap: _,
-            required,
-        } => lower_limits(layers, delay, j, required, above, limit),
+        Kind::Sink { required, .. } => lower_limits(delays, j, required, above, limit),
     }
 }
 
 // The numbers of all stages: after the pass `driver`, `wire` and `limit` hold, with the costs, the tree of stages of the net.
+// Kept: three arrays are lent to be written, each with a clause of its own.
 pub fn stage_numbers(
-    words: &[u32],
-    layers: usize,
-    nodes: usize,
+    net: &Net<'_>,
     stage: &[usize],
     below: &[usize],
     delay: &[u64],
@@ -105,18 +99,17 @@ pub fn stage_numbers(
     wire: &mut [u64],
     limit: &mut [i64],
 )
-    requires { Held words.now nodes layers × Staged (net_in words.now) stage.now below.now × LayerDelays (net_in words.now) layers delay.now ×
+    requires { Staged (net_of net.now) stage.now below.now × LayerDelays (net_of net.now) net.now.layers delay.now ×
         (length driver.old ≡ max_stages) × (length wire.old ≡ max_stages * max_layers) × (limit.old ≡ replicate (max_stages * max_layers) no_limit) }
-    ensures { (cost : List ℕ) → Priced (net_in words.now) cost
-        → Laid (tree_of (net_in words.now)) driver.new wire.new limit.new cost }
+    ensures { (cost : List ℕ) → Priced (net_of net.now) cost
+        → Laid (tree_of (net_of net.now)) driver.new wire.new limit.new cost }
 {
-    let mut j: usize = 1;
-    while j <= nodes {
-        let node = node_at(words, j);
-        let kind = node.kind;
-        let above = stage[j];
-        let own = below[j];
-        note_node(kind, layers, delay, j, above, own, driver, wire, limit);
-        j += 1;
+    let delays = Delays {
+        layers: net.layers,
+        delay,
+    };
+    for j in 1..=net.nodes {
+        let kind = net.node(j).kind;
+        note_node(kind, &delays, j, stage[j], below[j], driver, wire, limit);
     }
 }

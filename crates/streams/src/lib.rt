@@ -36,6 +36,7 @@ pub fn read_full<R: Read>(input: &mut R, buf: &mut [u8]) -> io::Result<usize>
     ensures whole { IfOk result (λ n. n < length buf.new → IsAtEnd (R.remaining input.new)) }
 {
     let mut size = 0;
+    // Kept: no index is counted: each turn goes on by what one read gave.
     while size < buf.len() {
         let n = input.read(&mut buf[size..])?;
         if n == 0 {

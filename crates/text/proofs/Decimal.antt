@@ -61,8 +61,8 @@ unfolding decimal
 decimal-length k n h = from-length (n + 1) k n h
 
 -- A number of 64 bits has at most 20 digits, a byte's at most 3.
-pub number-length : (n : ℕ) → n < 2 ^ 64 → length (decimal n) ≤ 20
-number-length n h = decimal-length 19 n (omega arith)
+pub number_length : (n : ℕ) → n < 2 ^ 64 → length (decimal n) ≤ 20
+number_length n h = decimal-length 19 n (omega arith)
 
 pub byte_length : (n : ℕ) → n < 256 → length (decimal n) ≤ 3
 byte_length n h = decimal-length 2 n (omega arith)

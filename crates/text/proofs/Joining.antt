@@ -1,29 +1,13 @@
 -- Texts put one after the other are one text put there, so the contract of a whole text follows from those of its parts.
-use mathlib.Core.Path.{◌≡◌, refl, ap, sym, ◌∙◌}
+use mathlib.Core.Path.{◌≡◌, ap, sym, ◌∙◌}
 use mathlib.Core.List.{List, [], ◌++◌, append_assoc, append-nil}
-use Prim.Native.Nat.{ℕ, ◌+◌, ◌≤◌, ◌<◌}
+use Prim.Native.Nat.{ℕ, ◌+◌, ◌≤◌}
 use native.Mathlib.Omega.{arith}
-use native.Mathlib.Numerals.{add-one}
-use lib.ListN.{length, take, drop, get_or, set, length-append, length-drop, take-append-drop}
-use lib.Seq.{length-take-le, take-length, take_at, drop_at, drop-drop, paste, paste-suc}
+use lib.ListN.{length, take, drop, length-append, length-drop, take-append-drop}
+use lib.Seq.{length-take-le, take_at, drop_at, drop-drop}
 use Rattle.io.specs.Counts.{IsPrefixLen}
 use Rattle.io.proofs.Counting.{prefix_len_of_le}
 use Rattle.text.specs.Placing.{Placed}
-
--- The copy of all of `text`, as the loop of `put` leaves it.
-pub copied : (text before after : List ℕ) (at i : ℕ) → i ≡ length text → at + i ≤ length before → after ≡ paste before at text i → Placed text at before after (at + i)
-copied text before after at i whole room e =
-    record {
-      bytes = e ∙ ap (λ (s : List ℕ). take at before ++ s ++ drop (at + i) before) (ap (λ (k : ℕ). take k text) whole ∙ take-length text);
-      ends = ap (λ (k : ℕ). at + k) whole;
-      room = room;
-    }
-
--- A turn of that loop.
-pub copied_more : (text before after : List ℕ) (at i : ℕ) → at + i < length before → i < length text → after ≡ paste before at text i
-    → set after (at + i) (get_or text i 0) ≡ paste before at text (i + 1)
-copied_more text before after at i room more e =
-    ap (λ (d : List ℕ). set d (at + i) (get_or text i 0)) e ∙ paste-suc before at text i 0 room more ∙ ap (paste before at text) (sym (add-one i))
 
 -- Nothing put.
 pub nothing : (at : ℕ) (before : List ℕ) → at ≤ length before → Placed [] at before before at
@@ -72,19 +56,6 @@ module _ {s before middle : List ℕ} {at mid : ℕ} (first : Placed s at before
           ends = omega (arith, first.ends, second.ends, length-append s t);
           room = omega (arith, second.room, same_length);
         }
-
--- What is put so far takes at most `most` bytes, in a buffer that keeps its length.
-pub record Within (most : ℕ) (before after : List ℕ) (next : ℕ) : Type 0 where
-  pub short : next ≤ most
-  pub long : length after ≡ length before
-
--- At the start, and after a text of at most k bytes more.
-pub within-start : {before : List ℕ} → Within 0 before before 0
-within-start = record { short = omega arith; long = refl }
-
-pub within_more : {most mid next : ℕ} {t before middle after : List ℕ} (k : ℕ) → Within most before middle mid → Placed t mid middle after next → length t ≤ k
-    → Within (most + k) before after next
-within_more k w p h = record { short = omega (arith, w.short, p.ends); long = same_length p ∙ w.long }
 
 -- A text put at the front of a buffer, as the contracts of whole texts say it.
 pub at_front : {text before after : List ℕ} {next : ℕ} → Placed text 0 before after next

@@ -2,7 +2,7 @@
 // were, and answers where they end (`Placed`); the bytes are those of rules/specs/Text.antt.
 #![tactic(auto)]
 
-ghost use Rattle.std.specs.Prelude.{◌≡◌, ◌+◌, ◌≤◌, length, nat_abs};
+ghost use Rattle.std.specs.Prelude.{◌+◌, ◌≤◌, length};
 ghost use Rattle.rules.specs.Text.{decimal, number_field, decimal_z};
 ghost use Rattle.text.specs.Placing.{Placed};
 
@@ -11,15 +11,13 @@ pub fn put(text: &[u8], out: &mut [u8], at: usize) -> usize
     requires { at + length text.now ≤ length out.old }
     ensures { Placed text.now at out.old out.new result }
 {
-    let mut i: usize = 0;
-    while i < text.len() {
-        out[at + i] = text[i];
-        i += 1;
-    }
-    at + i
+    let end = at + text.len();
+    out[at..end].copy_from_slice(text);
+    end
 }
 
 // Puts the decimal digits of `n` at `at`, and answers where they end.
+// Kept: std's write! promises nothing of the bytes; here a clause says each of them.
 pub fn put_number(n: u64, out: &mut [u8], at: usize) -> usize
     requires { at + length (decimal n) ≤ length out.old }
     ensures { Placed (decimal n) at out.old out.new result }
@@ -32,28 +30,21 @@ pub fn put_number(n: u64, out: &mut [u8], at: usize) -> usize
 // Puts a word at `at` and the digits of `n` after it, and answers where they end.
 pub fn put_field(word: &[u8], n: u64, out: &mut [u8], at: usize) -> usize
     requires { at + (length word.now + length (decimal n)) ≤ length out.old }
-    ensures { Placed (number_field word.now n) at out.old out.new result }
+    ensures placed { Placed (number_field word.now n) at out.old out.new result }
+    ensures upper_bound { result ≤ at + (length word.now + 20) }
 {
     let next = put(word, out, at);
     put_number(n, out, next)
 }
 
-// How far a time lies from 0. Minus one less a time below 0 is 0 or more and fits, also for the least time of 64 bits.
-fn size(t: i64) -> u64
-    ensures { result ≡ nat_abs t }
-{
-    if t < 0 {
-        return (-1 - t) as u64 + 1;
-    }
-    t as u64
-}
-
 // Puts a time at `at`: a minus sign if it is below 0, then the digits of its size. Answers where they end.
+// Kept: as `put_number`.
 pub fn put_time(t: i64, out: &mut [u8], at: usize) -> usize
     requires { at + length (decimal_z t) ≤ length out.old }
-    ensures { Placed (decimal_z t) at out.old out.new result }
+    ensures placed { Placed (decimal_z t) at out.old out.new result }
+    ensures upper_bound { result ≤ at + 20 }
 {
-    let n = size(t);
+    let n = t.unsigned_abs();
     if t < 0 {
         let next = put(b"-", out, at);
         return put_number(n, out, next);

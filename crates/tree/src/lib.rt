@@ -1,24 +1,16 @@
 // The tree of a net that was read (01, The tree): what drives the wire below each node, and the stage of each edge.
 #![tactic(auto)]
 
-ghost use Rattle.std.specs.Prelude.{◌≡◌, ℕ, ◌+◌, ◌≤◌, length, if◌then◌else◌};
+ghost use Rattle.std.specs.Prelude.{◌≡◌, ◌+◌, ◌≤◌, length, if◌then◌else◌};
 ghost use Rattle.rules.specs.Bytes.{max_nodes};
 ghost use Rattle.rules.specs.Tree.{is_buffer};
-ghost use Rattle.words.specs.Words.{net_in};
-ghost use Rattle.words.specs.Held.{Held};
+ghost use Rattle.words.specs.Net.{net_of};
 ghost use Rattle.tree.specs.Gates.{gate_of};
 ghost use Rattle.tree.specs.Staged.{Staged};
 
 use reader::buffer_bit;
 use rules::Kind;
-use words::{node_at, node_in};
-
-// A layer number as an index.
-pub fn wide(layer: u8) -> usize
-    ensures { result ≡ layer }
-{
-    layer as usize
-}
+use words::{Net, node_in};
 
 // What drives the wire below a node: the gate of a root, or the wire above.
 #[derive(Clone, Copy)]
@@ -28,26 +20,20 @@ pub enum Gate {
 }
 
 // What drives the wire below node i. Row 0, the driver's, is read as a buffer.
-pub fn gate_at(words: &[u32], i: usize) -> Gate
-    requires { (nodes : ℕ) × (layers : ℕ) × Held words.now nodes layers × (i ≤ nodes) }
-    ensures { result ≡ gate_of (net_in words.now) i }
+pub fn gate_at(net: &Net<'_>, i: usize) -> Gate
+    requires { i ≤ net.now.nodes }
+    ensures { result ≡ gate_of (net_of net.now) i }
 {
-    let node = node_in(words, i);
-    let kind = node.kind;
-    match kind {
-        Kind::Steiner => Gate::Wire,
+    match node_in(net.words, i).kind {
         Kind::Buffer {
-            input_cap: _,
             gate_res,
             intrinsic,
+            ..
         } => Gate::Root {
             gate_res,
             intrinsic,
         },
-        Kind::Sink {
-            input_cap: _,
-            required: _,
-        } => Gate::Wire,
+        Kind::Steiner | Kind::Sink { .. } => Gate::Wire,
     }
 }
 
@@ -55,36 +41,25 @@ pub fn gate_at(words: &[u32], i: usize) -> Gate
 fn stage_below(kind: Kind, own: usize, above: usize) -> usize
     ensures { result ≡ (if is_buffer kind then own else above) }
 {
-    match kind {
-        Kind::Steiner => above,
-        Kind::Buffer {
-            input_cap: _,
-            gate_res: _,
-            intrinsic: _,
-        } => own,
-        Kind::Sink {
-            input_cap: _,
-            required: _,
-        } => above,
+    if matches!(kind, Kind::Buffer { .. }) {
+        own
+    } else {
+        above
     }
 }
 
 // The stage of each edge, and of the wire below each node.
-pub fn stages(words: &[u32], nodes: usize, stage: &mut [usize], below: &mut [usize])
-    requires { ((layers : ℕ) × Held words.now nodes layers) × (length stage.old ≡ max_nodes + 1) × (length below.old ≡ max_nodes + 1) }
-    ensures { Staged (net_in words.now) stage.new below.new }
+pub fn stages(net: &Net<'_>, stage: &mut [usize], below: &mut [usize])
+    requires { (length stage.old ≡ max_nodes + 1) × (length below.old ≡ max_nodes + 1) }
+    ensures { Staged (net_of net.now) stage.new below.new }
 {
     below[0] = 0;
     let mut count: usize = 0;
-    let mut j: usize = 1;
-    while j <= nodes {
-        let node = node_at(words, j);
-        let parent = node.parent;
-        let kind = node.kind;
-        let above = below[parent];
-        count += buffer_bit(kind);
+    for j in 1..=net.nodes {
+        let node = net.node(j);
+        let above = below[node.parent];
+        count += buffer_bit(node.kind);
         stage[j] = above;
-        below[j] = stage_below(kind, count, above);
-        j += 1;
+        below[j] = stage_below(node.kind, count, above);
     }
 }

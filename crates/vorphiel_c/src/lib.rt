@@ -43,8 +43,7 @@ pub extern "C" fn vorphiel_judge(net: &[u8], plan: &[u8], cost: &mut u64, slack:
 {
     let judged = vorphiel::judge(net, plan);
     *cost = judged.cost;
-    let judged_slack = judged.slack;
-    *slack = judged_slack;
+    *slack = judged.slack;
     judged.refusal
 }
 
@@ -70,8 +69,7 @@ pub extern "C" fn vorphiel_plan(
 {
     let planned = vorphiel::plan(net, p, q, table, buffer);
     *cost = planned.cost;
-    let planned_slack = planned.slack;
-    *slack = planned_slack;
+    *slack = planned.slack;
     *k = planned.k;
     *floor = planned.floor;
     planned.refusal
@@ -97,8 +95,7 @@ pub extern "C" fn vorphiel_plan_rounds(
 {
     let best = vorphiel::plan_rounds(net, r, table, buffer);
     *cost = best.cost;
-    let best_slack = best.slack;
-    *slack = best_slack;
+    *slack = best.slack;
     *floor = best.floor;
     *rounds = best.rounds;
     best.refusal
@@ -140,8 +137,7 @@ pub extern "C" fn vorphiel_desk_open(desk: &mut Desk, net: &[u8]) -> Checked
     ensures equation { record { desk = desk.new; answer = result } ≡ open_on desk.old net.now }
     ensures follows { Follows (to_open net.now) desk.old desk.new (counts_reply result) }
 {
-    let v = *desk;
-    let o = open_value(v, net);
+    let o = open_value(*desk, net);
     *desk = o.desk;
     o.answer
 }
@@ -152,8 +148,7 @@ pub extern "C" fn vorphiel_desk_set(desk: &mut Desk, stage: u64, layer: u64) -> 
     ensures equation { record { desk = desk.new; answer = result } ≡ set_on desk.old stage layer }
     ensures follows { Follows (to_set stage layer) desk.old desk.new (number_reply result) }
 {
-    let v = *desk;
-    let o = set_value(v, stage, layer);
+    let o = set_value(*desk, stage, layer);
     *desk = o.desk;
     o.answer
 }
@@ -164,8 +159,7 @@ pub extern "C" fn vorphiel_desk_lock(desk: &mut Desk, stage: u64) -> u8
     ensures equation { record { desk = desk.new; answer = result } ≡ lock_on desk.old stage }
     ensures follows { Follows (to_lock stage) desk.old desk.new (number_reply result) }
 {
-    let v = *desk;
-    let o = lock_value(v, stage);
+    let o = lock_value(*desk, stage);
     *desk = o.desk;
     o.answer
 }
@@ -176,8 +170,7 @@ pub extern "C" fn vorphiel_desk_unlock(desk: &mut Desk, stage: u64) -> u8
     ensures equation { record { desk = desk.new; answer = result } ≡ unlock_on desk.old stage }
     ensures follows { Follows (to_unlock stage) desk.old desk.new (number_reply result) }
 {
-    let v = *desk;
-    let o = unlock_value(v, stage);
+    let o = unlock_value(*desk, stage);
     *desk = o.desk;
     o.answer
 }
@@ -188,8 +181,7 @@ pub extern "C" fn vorphiel_desk_read(desk: &Desk) -> Judged
     ensures value { result ≡ read_on desk.now }
     ensures follows { Follows to_read desk.now desk.now (figures_reply result) }
 {
-    let v = *desk;
-    read_value(v)
+    read_value(*desk)
 }
 
 // The version for hosts in other languages.

@@ -3,6 +3,7 @@ use Rattle.std.specs.Prelude.{◌≡◌, true, List, ℕ, suc, ◌-◌, ◌≤�
 use Rattle.std.specs.Int.Signed.{le_z}
 use Rattle.oracle.specs.Stages.{StageTree, arrive}
 use Rattle.slices.specs.Laid.{max_delay, on_layer, time_at, LaidDelays}
+use Rattle.slices.specs.declared.Tree.{Tree}
 use Rattle.readoff.specs.NearTimes.{Bounded}
 
 -- The delays to stage j on the layers before l are from `least` to `most`, and both are its delays on some layers.
@@ -22,6 +23,10 @@ pub record WindowsIn (T : StageTree) (driver delay : List ℕ) (stages layers : 
   pub stages-are : stages ≡ T.stages
   pub layers-are : layers ≡ T.layers
   pub arrival-is : arrival ≡ T.arrival
+
+-- The same of the tree as it is lent.
+abbrev pub WindowsOf : StageTree → Tree → Type 0
+WindowsOf T tree = WindowsIn T tree.driver.now tree.delay.now tree.stages tree.layers tree.arrival
 
 -- The windows of the stages before n follow from one another.
 pub record Steps (T : StageTree) (early late : List ℤ) (n : ℕ) : Type 0 where

@@ -6,7 +6,7 @@ ghost use Rattle.rules.specs.Bytes.{max_layers};
 ghost use Rattle.oracle.specs.Stages.{StageTree};
 ghost use Rattle.slices.specs.Laid.{max_delay};
 ghost use Rattle.readoff.specs.Clauses.{Near};
-ghost use Rattle.windows.specs.Clauses.{DelayRange, WindowsIn, Opened};
+ghost use Rattle.windows.specs.Clauses.{DelayRange, WindowsOf, Opened};
 
 use slices::Tree;
 
@@ -25,21 +25,15 @@ fn delay_range(delay: &[u64], layers: usize, j: usize) -> Delays
     let at = j * rules::MAX_LAYERS;
     let mut least = delay[at];
     let mut most = least;
-    let mut l: usize = 1;
-    while l < layers {
-        let d = delay[at + l];
-        if d < least {
-            least = d;
-        }
-        if most < d {
-            most = d;
-        }
-        l += 1;
+    for l in 1..layers {
+        least = least.min(delay[at + l]);
+        most = most.max(delay[at + l]);
     }
     Delays { least, most }
 }
 
 // A time d later.
+// Kept: a sum with a clause in whole numbers; `+` alone says so of the machine's integers.
 fn after(t: i64, d: u64) -> i64
     requires { (d ≤ max_delay) × Near t }
     ensures { result ≡ t +ℤ pos d }
@@ -48,25 +42,16 @@ fn after(t: i64, d: u64) -> i64
 }
 
 // The earliest and the latest time at which each stage can be reached, whatever the layers.
-pub fn windows(driver: &[usize], delay: &[u64], n: Tree, early: &mut [i64], late: &mut [i64])
-    requires { ((T : StageTree) × WindowsIn T driver.now delay.now n.stages n.layers n.arrival)
-        × (n.stages ≤ length early.old) × (n.stages ≤ length late.old) }
-    ensures { (T : StageTree) → WindowsIn T driver.now delay.now n.stages n.layers n.arrival
-        → Opened T early.new late.new }
+pub fn windows(tree: &Tree<'_>, early: &mut [i64], late: &mut [i64])
+    requires { ((T : StageTree) × WindowsOf T tree.now) × (tree.now.stages ≤ length early.old) × (tree.now.stages ≤ length late.old) }
+    ensures { (T : StageTree) → WindowsOf T tree.now → Opened T early.new late.new }
 {
-    let arrival = n.arrival;
-    early[0] = arrival;
-    late[0] = arrival;
-    let mut j: usize = 1;
-    while j < n.stages {
-        let i = driver[j];
-        let range = delay_range(delay, n.layers, j);
-        let a = early[i];
-        let b = late[i];
-        let first = after(a, range.least);
-        let last = after(b, range.most);
-        early[j] = first;
-        late[j] = last;
-        j += 1;
+    early[0] = tree.arrival;
+    late[0] = tree.arrival;
+    for j in 1..tree.stages {
+        let i = tree.driver[j];
+        let range = delay_range(tree.delay, tree.layers, j);
+        early[j] = after(early[i], range.least);
+        late[j] = after(late[i], range.most);
     }
 }

@@ -12,7 +12,7 @@ use borrow.Author.Tests.{ne_eqb}
 use Rattle.laws.specs.Basic.{all, from, within}
 use Rattle.laws.specs.Booleans.{same_or}
 use Rattle.laws.specs.Lists.{scan, scan-start, scan_no, scan-more, scan_end, map-map, map_same, from-mem, from_low}
-use Rattle.rules.specs.Bytes.{max_layers, max_cost, number, signed, kind_size, kind_at, costs_at, is_costs}
+use Rattle.rules.specs.Bytes.{max_layers, max_cost, number, signed, kind_at, costs_at, is_costs}
 use Rattle.rules.specs.declared.Kind.{Kind}
 use Rattle.rules.specs.declared.Kind.TheVariants.{Steiner, Buffer, Sink}
 use Rattle.fields.proofs.Laws.{number-halves}
@@ -48,37 +48,12 @@ kind-none : (bs : List ℕ) (t i a b c : ℕ) → t ≡ 3 → kind_of t a b c �
 unfolding kind_of kind_at
 kind-none bs t i a b c e = simp e
 
--- a kind's own numbers, where it has them, take 12 bytes
-pub kind-room : {t n : ℕ} (i : ℕ) → (t ≡ 3 → ⊥) → i + kind_size t ≤ n → i + 12 ≤ n
-kind-room i no3 h = simp (ne_eqb _ _ no3) at h
-
 -- a record from the words of its row
 pub record_of : (w : List ℕ) (j : ℕ) {p l : ℕ} {k : Kind} → p ≡ get_or w (node_row j + 1) 0 → l ≡ get_or w (node_row j + 2) 0
     → k ≡ kind_of (get_or w (node_row j) 0) (get_or w (node_row j + 3) 0) (get_or w (node_row j + 4) 0) (get_or w (node_row j + 5) 0)
     → record { parent = p; len = l; kind = k } ≡ record_in w j
 unfolding record_in kind_in
 record_of w j ep el ek = rw (ep, el, ek, same_at w (node_row j + 0) (node_row j) (omega arith))
-
--- three numbers
-pub three : (old : List ℕ) (i a b c : ℕ) → i + 3 ≤ length old → Three old (set (set (set old i a) (i + 1) b) (i + 2) c) i a b c
-three old i a b c h =
-    let la = length-set old i a in
-    let lb = length-set one (i + 1) b in
-    record {
-      first = past i (λ e. omega arith) (λ e. omega arith) ∙ get_or-set_same old i a 0 (omega arith);
-      second = get_or-set_other two (i + 2) (i + 1) c 0 (λ e. omega arith) ∙ get_or-set_same one (i + 1) b 0 (omega arith);
-      third = get_or-set_same two (i + 2) c 0 (omega arith);
-      lower = λ k d. past k (λ e. omega arith) (λ e. omega arith) ∙ get_or-set_other old i k a 0 (λ e. omega arith);
-    }
-  where
-    one : List ℕ
-    one = set old i a
-
-    two : List ℕ
-    two = set one (i + 1) b
-
-    past : (k : ℕ) → (k ≡ i + 1 → ⊥) → (k ≡ i + 2 → ⊥) → get_or (set two (i + 2) c) k 0 ≡ get_or one k 0
-    past k n1 n2 = get_or-set_other two (i + 2) k c 0 n2 ∙ get_or-set_other one (i + 1) k b 0 n1
 
 -- the record of a node
 module _ (bs : List ℕ) (L : ℕ) {tag i p l j : ℕ} {old mid : List ℕ} (T : Three old mid (node_row j) tag p l) (ep : p ≡ number bs i 2)

@@ -6,7 +6,6 @@ use mathlib.Core.Logic.{◌⊎◌, inl, inr}
 use mathlib.Core.List.{List, map}
 use Prim.Native.Nat.{ℕ, ◌+◌, ◌*◌, ◌<◌, ◌≤◌}
 use native.Mathlib.Omega.{arith}
-use native.Mathlib.Nat.{mul-le-mul}
 use lib.Dec.{leb, eqb}
 use lib.ListN.{length, get_or, set, length-set}
 use lib.Seq.{get_or-set_same, get_or-set_other}
@@ -120,14 +119,6 @@ module _ {bs : List ℕ} {tag L i size : ℕ} {words : List ℕ} {k : ℕ} (U : 
         here : (l : ℕ) → l < k + 1 → (l ≡ k) ⊎ (l ≡ k → ⊥) → layer_in new l ≡ layer_at bs tag (i + layer_size tag * l)
         here l d (inl q) = rw (q, ← ew) P.is
         here l d (inr ne) = P.others l (omega arith) ne ∙ U.each l (omega arith)
-
--- layer k of the L layers from i on lies within the bytes
-pub layer-room : (tag i : ℕ) {w k L n : ℕ} → w ≡ layer_size tag → k < L → i + layer_size tag * L ≤ n → i + w * k + layer_size tag ≤ n
-layer-room tag i {w} {k} {L} e h room =
-    let same : layer_size tag ≤ layer_size tag = omega arith in
-    let next : k + 1 ≤ L = omega arith in
-    let p = mul-le-mul same next in
-    rw e (omega arith)
 
 -- layers that are as they were
 pub layers-same : (old new : List ℕ) (L : ℕ) → L ≤ max_layers → ((k : ℕ) → k < rows_at → get_or new k 0 ≡ get_or old k 0) → layers_in new L ≡ layers_in old L

@@ -1,3 +1,4 @@
 pub mod Words
 pub mod Puts
 pub mod Held
+pub mod Net

@@ -3,15 +3,20 @@
 #![tactic(auto)]
 
 ghost use Rattle.std.specs.Prelude.{◌≡◌, ℕ, ◌+◌, ◌*◌, ◌≤◌, ◌<◌, eqb, length, set, if◌then◌else◌};
+ghost use Rattle.laws.specs.Basic.{within};
 ghost use Rattle.rules.specs.Tree.{layer_count, at};
-ghost use Rattle.rules.specs.Bytes.{max_layers, max_nodes, via_layers_tag, number, layer_size, kind_size};
+ghost use Rattle.rules.specs.Bytes.{max_cost, max_unit, max_layers, max_nodes, via_layers_tag, number, layer_size, kind_size};
 ghost use Rattle.rules.specs.Timing.{layer, edge_cost};
 ghost use Rattle.words.specs.Words.{rows_at, count_at, node_row, kind_of, record_in, net_in};
 ghost use Rattle.words.specs.Held.{Held, record_of};
 ghost use Rattle.words.specs.Puts.{Three, RecordPut, CostsPut, NodePut, LayerPut, LayersPut, DriverPut};
 
-use fields::{kind_in_range, layer_size, number, time_in_range, time_of, within};
+use fields::{kind_in_range, layer_size, number, time_in_range, time_of};
 use rules::Kind;
+
+mod net;
+
+pub use net::Net;
 
 // Where the unit capacitances of the layers begin.
 const CAPS_AT: usize = rules::MAX_LAYERS;
@@ -49,26 +54,22 @@ pub struct Node {
 }
 
 // The kind of a tag with these three words.
+// Kept: the tag is the number in the bytes (01, Net bytes) and in the word of its row; an enum would be made of it and turned back into it.
 fn kind_of(tag: u32, a: u32, b: u32, c: u32) -> Kind
     ensures { result ≡ kind_of tag a b c }
 {
-    if tag == 3 {
-        return Kind::Steiner;
-    }
-    let input_cap = a as u64;
-    if tag == 4 {
-        let gate_res = b as u64;
-        let intrinsic = c as u64;
-        return Kind::Buffer {
+    let input_cap = u64::from(a);
+    match tag {
+        3 => Kind::Steiner,
+        4 => Kind::Buffer {
             input_cap,
-            gate_res,
-            intrinsic,
-        };
-    }
-    let required = time_of(b, c);
-    Kind::Sink {
-        input_cap,
-        required,
+            gate_res: u64::from(b),
+            intrinsic: u64::from(c),
+        },
+        _ => Kind::Sink {
+            input_cap,
+            required: time_of(b, c),
+        },
     }
 }
 
@@ -80,7 +81,7 @@ pub fn node_in(words: &[u32], j: usize) -> Node
     let at = ROWS_AT + j * WIDTH;
     let kind = kind_of(words[at], words[at + 3], words[at + 4], words[at + 5]);
     let parent = words[at + 1] as usize;
-    let len = words[at + 2] as u64;
+    let len = u64::from(words[at + 2]);
     Node { parent, len, kind }
 }
 
@@ -89,12 +90,11 @@ fn put_three(words: &mut [u32], i: usize, a: u32, b: u32, c: u32)
     requires { i + 3 ≤ length words.old }
     ensures { Three words.old words.new i a b c }
 {
-    words[i] = a;
-    words[i + 1] = b;
-    words[i + 2] = c;
+    words[i..i + 3].copy_from_slice(&[a, b, c]);
 }
 
 // All of the node of this tag whose payload starts at `start` but its costs, into row j.
+// Kept: the tag is the number in the bytes (01, Net bytes) and in the word of its row; an enum would be made of it and turned back into it.
 fn put_record(net: &[u8], tag: u32, start: usize, layers: usize, j: usize, words: &mut [u32])
     requires { (layers ≤ max_layers) × (start + 4 + 4 * layers + kind_size tag ≤ length net.now) × (node_row (j + 1) ≤ length words.old) }
     ensures { RecordPut net.now layers tag start words.old words.new j }
@@ -112,24 +112,30 @@ fn put_record(net: &[u8], tag: u32, start: usize, layers: usize, j: usize, words
     }
 }
 
+// Whether a cost is in its range.
+fn cost_in_range(cost: u32) -> bool
+    ensures { result ≡ within 1 max_cost cost }
+{
+    (1..=rules::MAX_COST).contains(&u64::from(cost))
+}
+
 // The costs from `at` on, one for each layer, into row j, and whether they are in their range; the first that is not ends the work.
 fn put_costs(net: &[u8], at: usize, layers: usize, j: usize, words: &mut [u32]) -> bool
     requires { (layers ≤ max_layers) × (at + 4 * layers ≤ length net.now) × (node_row (j + 1) ≤ length words.old) }
     ensures { CostsPut net.now layers at words.old words.new j result }
 {
-    let mut l: usize = 0;
-    while l < layers {
+    for l in 0..layers {
         let cost = number(net, at + 4 * l, 4);
         words[ROWS_AT + j * WIDTH + COSTS_AT + l] = cost;
-        if !within(cost as u64, 1, rules::MAX_COST) {
+        if !cost_in_range(cost) {
             return false;
         }
-        l += 1;
     }
     true
 }
 
 // The node of this tag whose payload starts at `start`, into row j, and whether its costs are in their range.
+// Kept: the tag is the number in the bytes (01, Net bytes) and in the word of its row; an enum would be made of it and turned back into it.
 pub fn put_node(
     net: &[u8],
     tag: u32,
@@ -146,17 +152,23 @@ pub fn put_node(
 }
 
 // The via resistance at `at` in a layers field of this tag: two bytes under tag 7; tag 1 has none, and it is 0.
+// Kept: the tag is the number in the bytes (01, Net bytes) and in the word of its row; an enum would be made of it and turned back into it.
 fn via_at(net: &[u8], tag: u32, at: usize) -> u32
     requires { at + layer_size tag ≤ length net.now + 4 }
     ensures { result ≡ (if eqb tag via_layers_tag then number net.now at 2 else 0) }
 {
-    if tag == 7 {
-        return number(net, at, 2);
-    }
-    0
+    if tag == 7 { number(net, at, 2) } else { 0 }
+}
+
+// Whether a unit resistance or capacitance is in its range.
+fn unit_in_range(unit: u32) -> bool
+    ensures { result ≡ within 1 max_unit unit }
+{
+    (1..=rules::MAX_UNIT).contains(&u64::from(unit))
 }
 
 // The layer that stands at `at` in a layers field of this tag, as layer l, and whether its numbers are in their ranges.
+// Kept: the tag is the number in the bytes (01, Net bytes) and in the word of its row; an enum would be made of it and turned back into it.
 fn put_layer(net: &[u8], tag: u32, at: usize, l: usize, words: &mut [u32]) -> bool
     requires { (l < max_layers) × (at + layer_size tag ≤ length net.now) × (rows_at ≤ length words.old) }
     ensures { LayerPut net.now tag at words.old words.new l result }
@@ -167,27 +179,20 @@ fn put_layer(net: &[u8], tag: u32, at: usize, l: usize, words: &mut [u32]) -> bo
     words[l] = unit_res;
     words[CAPS_AT + l] = unit_cap;
     words[VIAS_AT + l] = via_res;
-    if !within(unit_res as u64, 1, rules::MAX_UNIT) {
-        return false;
-    }
-    if !within(unit_cap as u64, 1, rules::MAX_UNIT) {
-        return false;
-    }
-    via_res as u64 <= rules::MAX_VIA_RES
+    unit_in_range(unit_res) && unit_in_range(unit_cap) && u64::from(via_res) <= rules::MAX_VIA_RES
 }
 
 // The layers from `at` on, in a layers field of this tag, and whether their numbers are in their ranges; the first that is not ends the work.
+// Kept: the tag is the number in the bytes (01, Net bytes) and in the word of its row; an enum would be made of it and turned back into it.
 pub fn put_layers(net: &[u8], tag: u32, at: usize, layers: usize, words: &mut [u32]) -> bool
     requires { (layers ≤ max_layers) × (at + layer_size tag * layers ≤ length net.now) × (rows_at ≤ length words.old) }
     ensures { LayersPut net.now tag layers at words.new result }
 {
     let each = layer_size(tag);
-    let mut l: usize = 0;
-    while l < layers {
+    for l in 0..layers {
         if !put_layer(net, tag, at + each * l, l, words) {
             return false;
         }
-        l += 1;
     }
     true
 }
@@ -206,10 +211,7 @@ pub fn put_driver(net: &[u8], at: usize, layers: usize, words: &mut [u32]) -> bo
     put_three(words, ROWS_AT + 6, high, low, 0);
     let kind = kind_of(4, 0, gate_res, intrinsic);
     let arrival = time_of(high, low);
-    if !kind_in_range(kind) {
-        return false;
-    }
-    time_in_range(arrival)
+    kind_in_range(kind) && time_in_range(arrival)
 }
 
 // The count of nodes after the driver, into row 0.
@@ -219,6 +221,9 @@ pub fn put_count(words: &mut [u32], count: usize)
 {
     words[COUNT_AT] = count as u32;
 }
+
+// The numbers of a net by its array alone.
+// Kept: public functions that docs/WHY.md names, with what they ask and promise; `Net` has them as methods.
 
 // Node j of the net.
 pub fn node_at(words: &[u32], j: usize) -> Node
@@ -241,7 +246,7 @@ pub fn unit_res(words: &[u32], l: usize) -> u64
     requires { (nodes : ℕ) × (layers : ℕ) × Held words.now nodes layers × (l < layers) }
     ensures { result ≡ (layer (net_in words.now) l).unit_res }
 {
-    words[l] as u64
+    u64::from(words[l])
 }
 
 // The unit capacitance of layer l.
@@ -249,7 +254,7 @@ pub fn unit_cap(words: &[u32], l: usize) -> u64
     requires { (nodes : ℕ) × (layers : ℕ) × Held words.now nodes layers × (l < layers) }
     ensures { result ≡ (layer (net_in words.now) l).unit_cap }
 {
-    words[CAPS_AT + l] as u64
+    u64::from(words[CAPS_AT + l])
 }
 
 // The via resistance of layer l.
@@ -257,7 +262,7 @@ pub fn via_res(words: &[u32], l: usize) -> u64
     requires { (nodes : ℕ) × (layers : ℕ) × Held words.now nodes layers × (l < layers) }
     ensures { result ≡ (layer (net_in words.now) l).via_res }
 {
-    words[VIAS_AT + l] as u64
+    u64::from(words[VIAS_AT + l])
 }
 
 // The cost of edge j on layer l.
@@ -265,7 +270,7 @@ pub fn edge_cost(words: &[u32], j: usize, l: usize) -> u64
     requires { (nodes : ℕ) × (layers : ℕ) × Held words.now nodes layers × (1 ≤ j) × (j ≤ nodes) × (l < layers) }
     ensures { result ≡ edge_cost (net_in words.now) l j }
 {
-    words[ROWS_AT + j * WIDTH + COSTS_AT + l] as u64
+    u64::from(words[ROWS_AT + j * WIDTH + COSTS_AT + l])
 }
 
 // The driver's arrival time.

@@ -1,14 +1,7 @@
--- `fill` is right: the columns before w hold the value.
-use native.Mathlib.Omega.{arith}
-use mir.Facts.{to_z-of_z}
-use Rattle.bands.proofs.Columns.{fill_start, fill_more, fill_end}
+-- `fill` is right: what stands before and behind the columns filled is as it was.
+use borrow.Author.Rules.{rules}
+use Rattle.bands.proofs.Columns.{filled}
 use Rattle.bands.proofs.fill.Goals as goal
 
-pub loop-w-init : goal.loop-w-init
-loop-w-init c = fill_start
-
-pub loop-w-preserved : goal.loop-w-preserved
-loop-w-preserved c = fill_more c.loop-w.invariant (omega arith) (omega arith)
-
-pub returns : goal.returns
-returns c = fill_end c.loop-w.invariant (omega arith) (to_z-of_z c.ranges.value)
+pub returns-then-start-end : goal.returns-then-start-end
+returns-then-start-end c = filled c.if-start-end.true c.requires (search rules)

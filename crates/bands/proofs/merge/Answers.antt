@@ -4,17 +4,17 @@ use Prim.Native.Nat.{◌<◌}
 use mathlib.Core.Logic.{inl, inr}
 use native.Mathlib.Omega.{arith}
 use Rattle.bands.proofs.Columns.{merge-start, i_low, j_low, merge-read-a, merge-read-b, merge-left, merge-right, merge-stop, merge-last, less-fits, less-is}
-use Rattle.bands.proofs.merge.Goals.{else-x-y, then-x-y}
+use Rattle.bands.proofs.merge.Goals.{else-x-y, then-x-y, then-i-end_a-via-then-i-end_a, then-i-end_a-via-else-i-end_a+then-j-end_b}
 use Rattle.bands.proofs.merge.Goals as goal
 
 pub loop-w-init : goal.loop-w-init
 loop-w-init c = merge-start (search rules)
 
 pub returns-then-i-end_a : goal.returns-then-i-end_a
-returns-then-i-end_a c = merge-stop c.requires c.loop-w.invariant (omega arith) (inr (inl c.if-i-end_a.true))
-
-pub returns-then-j-end_b : goal.returns-then-j-end_b
-returns-then-j-end_b c = merge-stop c.requires c.loop-w.invariant (omega arith) (inr (inr c.if-j-end_b.true))
+returns-then-i-end_a c = merge-stop c.requires c.loop-w.invariant (omega arith) (inr (elim c.then-i-end_a.branch [
+  | then-i-end_a-via-then-i-end_a w ↦ inl w.if-i-end_a.true
+  | then-i-end_a-via-else-i-end_a+then-j-end_b w ↦ inr w.if-j-end_b.true
+]))
 
 pub overflow_sub-x : goal.overflow_sub-x
 overflow_sub-x c =

@@ -3,11 +3,8 @@ use mathlib.Core.Path.{◌≡◌}
 use Prim.Native.Nat.{◌-◌, ◌≤◌, suc}
 use native.Mathlib.Omega.{arith}
 use Rattle.bands.specs.Entries.{range-more}
-use Rattle.bands.proofs.Columns.{spend_start, spend_from, spend_out, spend_in_from, spend_in_out, spend_better, spend_worse, spend_end, entry-is, less-fits, less-is}
+use Rattle.bands.proofs.Columns.{spend_from, spend_out, spend_in_from, spend_in_out, spend_better, spend_worse, spend_end, entry-is, less-fits, less-is}
 use Rattle.bands.proofs.spend.Goals as goal
-
-pub loop-i-init : goal.loop-i-init
-loop-i-init c = spend_start
 
 pub overflow_sub-x : goal.overflow_sub-x
 overflow_sub-x c =

@@ -3,7 +3,4 @@ use Rattle.bands.proofs.Columns.{Spending}
 use Rattle.bands.proofs.spend.Given as goal
 
 abbrev pub invariant-loop-i : goal.invariant-loop-i
-invariant-loop-i l = Spending l.initial.table l.row l.out l.start l.initial.i l.c l.fn.part.delay l.table l.i
-
-abbrev pub decreases-loop-i : goal.decreases-loop-i
-decreases-loop-i l = l.i
+invariant-loop-i l = Spending l.initial.table l.row l.out l.start l.fn.part.end l.c l.fn.part.delay l.table l.i

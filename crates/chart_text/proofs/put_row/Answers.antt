@@ -1,7 +1,7 @@
 -- `put_row` is right: after the number for q the numbers for 1 to q stand at `at`, one space between, and each takes at most six bytes with its space.
-use mathlib.Core.Path.{refl}
 use Prim.Native.Nat.{ℕ, ◌+◌, ◌≤◌}
 use native.Mathlib.Omega.{arith}
+use lib.ListN.{length}
 use Rattle.rules.specs.Text.{space}
 use Rattle.rules.specs.Bytes.{max_stages}
 use Rattle.rules.specs.Chart.{chart_shares, chart_row, OnChart}
@@ -10,26 +10,25 @@ use Rattle.text.proofs.Separated.{later-start, later-put, between_put}
 use Rattle.chart_text.proofs.Cells.{printed_entry, printed-length}
 use Rattle.chart_text.proofs.put_row.Goals as goal
 
+-- The places that the chart has.
 on : {s q : ℕ} → 1 ≤ s → s ≤ max_stages → 1 ≤ q → q ≤ chart_shares → OnChart s q
 on a b c d = record { some-stage = a; few-stages = b; some_share = c; few_shares = d }
+
+-- How long its number is there.
+short : (s q : ℕ) → 1 ≤ s → s ≤ max_stages → 1 ≤ q → q ≤ chart_shares → length (printed_entry s q) ≤ 5
+short s q a b c d = printed-length s q (on a b c d)
 
 pub entry-requires : goal.entry-requires
 entry-requires c = on (omega arith) (omega arith) (omega arith) (omega arith)
 
 pub put_number-next-requires : goal.put_number-next-requires
-put_number-next-requires c =
-    let short = printed-length c.args.s 1 (on (omega arith) (omega arith) (omega arith) (omega arith)) in
-    rw c.entry.ensures (omega (arith, short))
+put_number-next-requires c = rw c.entry.ensures (omega (arith, short c.args.s 1 (omega arith) (omega arith) (omega arith) (omega arith)))
 
 pub loop-q-init : goal.loop-q-init
 loop-q-init c =
-    let short = printed-length c.args.s 1 (on (omega arith) (omega arith) (omega arith) (omega arith)) in
     let put = rw c.entry.ensures at c.put_number-next.ensures in
     record {
-      same_length = refl;
-      some_share = omega arith;
-      few_shares = omega arith;
-      upper_bound = omega (arith, short, put.ends);
+      upper_bound = omega (arith, short c.args.s 1 (omega arith) (omega arith) (omega arith) (omega arith), put.ends);
       placed = later-start space _ _ _ (omega (arith, put.room, joining.same_length put));
     }
 
@@ -38,19 +37,14 @@ entry-requires-in-loop-q c = on (omega arith) (omega arith) (omega arith) (omega
 
 pub put_field-next-requires : goal.put_field-next-requires
 put_field-next-requires c =
-    let short = printed-length c.args.s (c.loop-q.q + 1) (on (omega arith) (omega arith) (omega arith) (omega arith)) in
-    rw c.entry-in-loop-q.ensures (omega (arith, short))
+    rw c.entry-in-loop-q.ensures (omega (arith, short c.args.s (c.loop-q.q + 1) (omega arith) (omega arith) (omega arith) (omega arith)))
 
 pub loop-q-preserved : goal.loop-q-preserved
 loop-q-preserved c =
     let l = c.loop-q in
-    let short = printed-length c.args.s (l.q + 1) (on (omega arith) (omega arith) (omega arith) (omega arith)) in
-    let put = rw c.entry-in-loop-q.ensures at c.put_field-next.ensures in
+    let put = rw c.entry-in-loop-q.ensures at c.put_field-next.ensures.placed in
     record {
-      same_length = omega arith;
-      some_share = omega arith;
-      few_shares = omega arith;
-      upper_bound = omega (arith, short, put.ends);
+      upper_bound = omega (arith, short c.args.s (l.q + 1) (omega arith) (omega arith) (omega arith) (omega arith), put.ends);
       placed = later-put space (printed_entry c.args.s) l.q (omega arith) l.invariant.placed put;
     }
 

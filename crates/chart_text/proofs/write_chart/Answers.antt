@@ -1,5 +1,5 @@
 -- `write_chart` is right: after the line for s the lines for 1 to s stand at the front, a line feed between, and the last line feed makes them the chart.
-use mathlib.Core.Path.{refl, ap, ◌∙◌}
+use mathlib.Core.Path.{ap, ◌∙◌}
 use native.Mathlib.Omega.{arith}
 use Rattle.rules.specs.Bytes.{max_stages}
 use Rattle.rules.specs.Text.{line_feed}
@@ -13,9 +13,6 @@ pub loop-s-init : goal.loop-s-init
 loop-s-init c =
     let p = c.put_row-next.ensures in
     record {
-      same_length = refl;
-      some-stage = omega arith;
-      few-stages = omega arith;
       upper_bound = omega (arith, p.upper_bound);
       placed = later-start line_feed chart_row _ _ (omega (arith, p.placed.room, joining.same_length p.placed));
     }
@@ -26,9 +23,6 @@ loop-s-preserved c =
     let row = c.put_row-next-in-loop-s.ensures in
     let line = joined c.put-next.ensures row.placed in
     record {
-      same_length = joining.same_length line ∙ l.invariant.same_length;
-      some-stage = omega arith;
-      few-stages = omega arith;
       upper_bound = omega (arith, c.put-next.ensures.ends, row.upper_bound);
       placed = later-put line_feed chart_row l.s (omega arith) l.invariant.placed line;
     }

@@ -1,8 +1,5 @@
 -- `write_chart` is right: after the line for s the lines for 1 to s stand at the front, a line feed between, and the last line feed makes them the chart.
-use mathlib.Core.Path.{◌≡◌}
-use Prim.Native.Nat.{◌+◌, ◌*◌, ◌-◌, ◌≤◌}
-use lib.ListN.{length}
-use Rattle.rules.specs.Bytes.{max_stages}
+use Prim.Native.Nat.{◌+◌, ◌*◌, ◌≤◌}
 use Rattle.rules.specs.Text.{line_feed}
 use Rattle.rules.specs.Chart.{chart_row}
 use Rattle.text.specs.Placing.{Placed}
@@ -12,12 +9,6 @@ use Rattle.chart_text.proofs.write_chart.Given as goal
 
 abbrev pub invariant-loop-s : goal.invariant-loop-s
 invariant-loop-s l = record {
-  same_length : length l.out ≡ length l.initial.out;
-  some-stage : 1 ≤ l.s;
-  few-stages : l.s ≤ max_stages;
   upper_bound : l.next + 1 ≤ (max_row + 1) * l.s;
   placed : Placed (later line_feed chart_row l.s) l.initial.next l.initial.out l.out l.next;
 }
-
-abbrev pub decreases-loop-s : goal.decreases-loop-s
-decreases-loop-s l = max_stages - l.s

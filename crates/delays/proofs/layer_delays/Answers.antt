@@ -2,7 +2,7 @@
 use Prim.Native.Nat.{◌+◌, ◌*◌}
 use native.Mathlib.Omega.{arith}
 use Rattle.rules.specs.Bytes.{max_layers, max_nodes, max_stages}
-use Rattle.words.specs.Held.{held-accepted}
+use Rattle.words.specs.Net.{held}
 use Rattle.loads.specs.Columns.{zeros, layer-columns}
 use Rattle.loads.specs.Loaded.{unloaded_zeros}
 use Rattle.delays.specs.Delayed.{layer-delays}
@@ -10,30 +10,19 @@ use Rattle.delays.proofs.layer_delays.Goals as goal
 
 pub loads-requires : goal.loads-requires
 loads-requires c =
-    let s = c.requires in (
-      (_, s.0),
-      s.1,
-      layer-columns (held-accepted s.0) s.0.layers-are,
-      unloaded_zeros _ ((max_nodes + 1) * max_layers) (omega (
-        arith,
-        (held-accepted s.0).few-layers,
-        s.0.layers-are,
-      )),
+    let H = held c.args.net.now.held in (
+      c.requires.0,
+      layer-columns H.accepted H.layers-are,
+      unloaded_zeros _ ((max_nodes + 1) * max_layers) (omega (arith, H.accepted.few-layers, H.layers-are)),
     )
 
 pub delays-requires : goal.delays-requires
 delays-requires c =
-    let s = c.requires in (
-      (_, s.0),
-      s.1,
-      layer-columns (held-accepted s.0) s.0.layers-are,
+    let H = held c.args.net.now.held in (
+      c.requires.0,
+      layer-columns H.accepted H.layers-are,
       c.loads.ensures.0,
-      omega (
-        arith,
-        (held-accepted s.0).few-layers,
-        s.0.layers-are,
-        s.2,
-      ),
+      omega (arith, H.accepted.few-layers, H.layers-are, c.requires.1),
     )
 
 pub returns : goal.returns

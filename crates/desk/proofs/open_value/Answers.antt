@@ -8,7 +8,7 @@ use Rattle.desk.proofs.open_value.Goals as goal
 
 pub returns-then-not-takes : goal.returns-then-not-takes
 unfolding open_on
-returns-then-not-takes c = rw (← c.takes.ensures, c.if-not-takes.true) refl
+returns-then-not-takes c = rw (← c.takes.ensures, c.if-not-takes.true, c.from.ensures) refl
 
 -- Past the test a desk takes so many bytes.
 pub open_with-requires : goal.open_with-requires

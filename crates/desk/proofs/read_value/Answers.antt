@@ -14,7 +14,7 @@ use Rattle.desk.proofs.read_value.Goals as goal
 
 pub returns-then-not-is_readable : goal.returns-then-not-is_readable
 unfolding read_on
-returns-then-not-is_readable c = rw (← c.is_readable.ensures, c.if-not-is_readable.true) c.judging_refused.ensures
+returns-then-not-is_readable c = rw (← c.is_readable.ensures, c.if-not-is_readable.true, ← c.from.ensures) c.judging_refused.ensures
 
 -- Past the test, b, the net and the plan have their places.
 places : (used stages : ℕ) {b : Bool} → b ≡ is_readable used stages → b ≡ true → (used ≤ max_desk_net) × (stages ≤ max_stages)

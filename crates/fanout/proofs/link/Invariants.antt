@@ -4,6 +4,3 @@ use Rattle.fanout.proofs.link.Given as goal
 
 abbrev pub invariant-loop-j : goal.invariant-loop-j
 invariant-loop-j l = Linking l.owner l.initial.first l.initial.next l.count l.first l.next l.j
-
-abbrev pub decreases-loop-j : goal.decreases-loop-j
-decreases-loop-j l = l.j

@@ -9,7 +9,4 @@ use Rattle.loads.proofs.loads.Given as goal
 
 abbrev pub invariant-loop-j : goal.invariant-loop-j
 invariant-loop-j l =
-    Loading (net_in l.words) l.first l.columns l.load l.j × (length l.load ≡ length l.initial.load) × Counting (net_in l.words) l.edges l.j
-
-abbrev pub decreases-loop-j : goal.decreases-loop-j
-decreases-loop-j l = l.j
+    Loading (net_in l.net.words.now) l.first l.columns l.load l.j × (length l.load ≡ length l.initial.load) × Counting (net_in l.net.words.now) l.edges l.j

@@ -5,7 +5,7 @@ use Rattle.reader.proofs.Loop.{ReadSoFar}
 use Rattle.reader.proofs.nodes_from.Given as goal
 
 abbrev pub invariant-loop-at : goal.invariant-loop-at
-invariant-loop-at l = ReadSoFar l.net l.layers l.first l.keep l.initial.words l.words l.kids l.at l.count l.buffers
+invariant-loop-at l = ReadSoFar l.net l.layers l.first l.keep l.initial.words l.words l.kids l.at l.so_far.count l.so_far.buffers
 
 abbrev pub decreases-loop-at : goal.decreases-loop-at
 decreases-loop-at l = length l.net - l.at

@@ -1,7 +1,6 @@
 -- `put_met` is right: after i turns the lines of the first i counts stand at `at`, and they take at most as many bytes as i longest lines.
-use mathlib.Core.Path.{◌≡◌}
-use Prim.Native.Nat.{◌+◌, ◌*◌, ◌-◌, ◌≤◌}
-use lib.ListN.{length, take}
+use Prim.Native.Nat.{◌+◌, ◌*◌, ◌≤◌}
+use lib.ListN.{take}
 use Rattle.rules.specs.Block.{met_from}
 use Rattle.text.specs.Placing.{Placed}
 use Rattle.report_text.specs.Length.{max_met_line}
@@ -9,11 +8,6 @@ use Rattle.report_text.proofs.put_met.Given as goal
 
 abbrev pub invariant-loop-i : goal.invariant-loop-i
 invariant-loop-i l = record {
-  same_length : length l.out ≡ length l.initial.out;
   placed : Placed (met_from l.word 0 (take l.i l.counts)) l.at l.initial.out l.out l.next;
-  in_range : l.i ≤ length l.counts;
   upper_bound : l.next ≤ l.at + max_met_line * l.i;
 }
-
-abbrev pub decreases-loop-i : goal.decreases-loop-i
-decreases-loop-i l = length l.counts - l.i

@@ -1,13 +1,7 @@
 -- `excess_costs` is right: the rows of the stages so far are done, and what was taken off them is added up.
 use native.Mathlib.Omega.{arith}
-use Rattle.rounding.proofs.Totals.{taken_start, cost-row, excess-row_in, least-most, taken_more, taken_end}
+use Rattle.rounding.proofs.Totals.{excess-row_in, least-most, taken_more, taken_end}
 use Rattle.rounding.proofs.excess_costs.Goals as goal
-
-pub loop-i-init : goal.loop-i-init
-loop-i-init c = taken_start _ _ _ _ _
-
-pub least_rounded-least-requires : goal.least_rounded-least-requires
-least_rounded-least-requires c = cost-row c.requires _ c.loop-i-test.true
 
 pub excess_row-requires : goal.excess_row-requires
 excess_row-requires c =
@@ -23,9 +17,6 @@ pub loop-i-preserved : goal.loop-i-preserved
 loop-i-preserved c =
     taken_more c.requires c.loop-i.invariant c.loop-i-test.true c.least_rounded-least.ensures
     c.excess_row.ensures
-
-pub shape_of-excess : goal.shape_of-excess
-shape_of-excess c = c.loop-i.invariant.long
 
 pub returns : goal.returns
 returns c = taken_end c.requires.excess-long c.loop-i.invariant c.loop-i-test.false

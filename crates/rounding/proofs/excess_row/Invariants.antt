@@ -6,7 +6,4 @@ use Rattle.slices.specs.Rows.{Setting}
 use Rattle.rounding.proofs.excess_row.Given as goal
 
 abbrev pub invariant-loop-l : goal.invariant-loop-l
-invariant-loop-l l = Setting 0 max_layers l.initial.excess l.excess l.i l.layers l.l (λ m. on_layer l.cost l.i m / l.g - l.least)
-
-abbrev pub decreases-loop-l : goal.decreases-loop-l
-decreases-loop-l l = l.layers - l.l
+invariant-loop-l l = Setting 0 max_layers l.initial.excess l.excess l.i l.tree.layers l.l (λ m. on_layer l.tree.cost.now l.i m / l.g - l.least)

@@ -3,11 +3,8 @@ use mathlib.Core.Path.{◌∙◌}
 use Prim.Native.Nat.{◌^◌, ◌≤◌}
 use native.Mathlib.Omega.{arith}
 use Rattle.rules.specs.Grain.{max_exponent}
-use Rattle.rounding.proofs.Totals.{total-start, total-more, total_end, on-layer, rounds-most, rounded-is}
+use Rattle.rounding.proofs.Totals.{total-more, total_end, on-layer, rounds-most, rounded-is}
 use Rattle.rounding.proofs.rounded_cost.Goals as goal
-
-pub loop-i-init : goal.loop-i-init
-loop-i-init c = total-start _ _
 
 pub stage_rounded-total-requires : goal.stage_rounded-total-requires
 stage_rounded-total-requires c =

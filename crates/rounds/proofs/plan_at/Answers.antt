@@ -3,26 +3,11 @@
 use borrow.Author.Rules.{rules}
 use mathlib.Core.Path.{refl}
 use native.Mathlib.Omega.{arith}
-use lib.Pow.{pow_pos}
-use mir.Facts.{to_z-of_z}
-use Rattle.rounds.specs.Problem.{numbers-same}
-use Rattle.rounds.specs.Clauses.{prepared-same}
-use Rattle.rounds.proofs.Grains.{costs_of, bound_small, left, none_left, base-within, round_in, all_spent, reading, plan-at, sum-small}
+use Rattle.rounds.proofs.Grains.{numbers-kept, taken_off, bound_small, left, none_left, base-within, round_in, all_spent, reading, plan-at, sum-small}
 use Rattle.rounds.proofs.plan_at.Goals as goal
 
-pub excess_costs-base-requires : goal.excess_costs-base-requires
-excess_costs-base-requires c =
-    let P = c.requires.plan_at_in in
-    record {
-      tree = P.tree;
-      costs = costs_of P.numbers;
-      layers-are = P.numbers.layers-are;
-      excess-long = search rules;
-      some-grain = rw P.grain-is (pow_pos P.k);
-    }
-
 pub returns-then-columns-base : goal.returns-then-columns-base
-returns-then-columns-base c = λ T k N e K. none_left N K (c.excess_costs-base.ensures T k (costs_of N) N.layers-are e) (omega arith)
+returns-then-columns-base c = λ T k N e K. none_left N K (taken_off N e c.excess_costs-base.ensures) c.args.known.now (omega arith)
 
 pub overflow_add-bound : goal.overflow_add-bound
 overflow_add-bound c = let P = c.requires.plan_at_in in omega (arith, bound_small P.numbers P.plan)
@@ -30,47 +15,45 @@ overflow_add-bound c = let P = c.requires.plan_at_in in omega (arith, bound_smal
 pub overflow_sub-width : goal.overflow_sub-width
 overflow_sub-width c =
     let P = c.requires.plan_at_in in
-    let X = c.excess_costs-base.ensures P.tree P.k (costs_of P.numbers) P.numbers.layers-are P.grain-is in
-    omega (arith, c.lesser.ensures, base-within P.numbers P.plan X)
+    omega (arith, c.min.ensures, base-within P.numbers P.plan (taken_off P.numbers P.grain-is c.excess_costs-base.ensures))
 
-pub value_at-spent-requires : goal.value_at-spent-requires
-value_at-spent-requires c =
+pub value_at-requires-clause-round_in : goal.value_at-requires-clause-round_in
+value_at-requires-clause-round_in c =
     let P = c.requires.plan_at_in in
-    let X = c.excess_costs-base.ensures P.tree P.k (costs_of P.numbers) P.numbers.layers-are P.grain-is in
-    record {
-      round_in = round_in (numbers-same (to_z-of_z c.ranges.arrival) P.numbers) P.plan X (omega arith) c.lesser.ensures _ P.sized refl refl;
-      prepared = prepared-same (to_z-of_z c.ranges.arrival) c.requires.prepared;
-    }
+    let N = numbers-kept (search rules) P.numbers in
+    let X = taken_off P.numbers P.grain-is c.excess_costs-base.ensures in
+    round_in N P.plan X (omega arith) c.min.ensures _ P.sized refl refl
 
-pub returns-then-spent-width : goal.returns-then-spent-width
-returns-then-spent-width c = λ T k N e K.
-    let M = numbers-same (to_z-of_z c.ranges.arrival) N in
-    let X = c.excess_costs-base.ensures T k (costs_of N) N.layers-are e in
-    all_spent M K X (omega (arith, c.if-columns-base.false)) c.lesser.ensures _ (search rules) (c.value_at-spent.ensures _ 0 (left M K X) refl) (omega arith)
+pub returns-in_err-spent : goal.returns-in_err-spent
+returns-in_err-spent c = λ T k N e K.
+    let M = numbers-kept (search rules) N in
+    let X = taken_off M e c.excess_costs-base.ensures in
+    rw c.from_residual.ensures (all_spent M K X (omega (arith, c.if-columns-base.false)) c.min.ensures _
+    (omega (arith, c.requires.plan_at_in.sized, c.value_at.auto.table)) c.args.known.now (c.in_err-spent.ensures _ 0 (left M K X) refl))
 
 pub read_plan-requires : goal.read_plan-requires
 read_plan-requires c =
     let P = c.requires.plan_at_in in
-    let M = numbers-same (to_z-of_z c.ranges.arrival) P.numbers in
-    let X = c.excess_costs-base.ensures P.tree P.k (costs_of P.numbers) P.numbers.layers-are P.grain-is in
-    reading M P.plan X (omega (arith, c.if-columns-base.false)) c.lesser.ensures _ (search rules) (c.value_at-spent.ensures _ 0 (left M P.plan X) refl)
-    c.if-spent-width.false c.requires.prepared.linked refl P.long
+    let M = numbers-kept (search rules) P.numbers in
+    let X = taken_off M P.grain-is c.excess_costs-base.ensures in
+    reading M P.plan X (omega (arith, c.if-columns-base.false)) c.min.ensures _ (search rules) (c.in_ok-spent.ensures _ 0 (left M P.plan X) refl)
+    c.requires.prepared.linked refl P.long
 
 pub overflow_add-result : goal.overflow_add-result
 overflow_add-result c =
     let P = c.requires.plan_at_in in
-    let M = numbers-same (to_z-of_z c.ranges.arrival) P.numbers in
-    let X = c.excess_costs-base.ensures P.tree P.k (costs_of P.numbers) P.numbers.layers-are P.grain-is in
+    let M = numbers-kept (search rules) P.numbers in
+    let X = taken_off M P.grain-is c.excess_costs-base.ensures in
     omega (
       arith,
       bound_small P.numbers P.plan,
-      sum-small M P.plan X (omega (arith, c.if-columns-base.false)) c.lesser.ensures _ (omega (arith, c.requires.plan_at_in.sized, c.value_at-spent.auto.table))
-          (c.value_at-spent.ensures _ 0 (left M P.plan X) refl) c.if-spent-width.false,
+      sum-small M P.plan X (omega (arith, c.if-columns-base.false)) c.min.ensures _ (omega (arith, P.sized, c.value_at.auto.table))
+          (c.in_ok-spent.ensures _ 0 (left M P.plan X) refl),
     )
 
 pub returns : goal.returns
 returns c = λ T k N e K.
-    let M = numbers-same (to_z-of_z c.ranges.arrival) N in
-    let X = c.excess_costs-base.ensures T k (costs_of N) N.layers-are e in
-    plan-at M K X (omega (arith, c.if-columns-base.false)) c.lesser.ensures _ (omega (arith, c.requires.plan_at_in.sized, c.value_at-spent.auto.table)) (c.value_at-spent.ensures _ 0 (left M K X) refl)
-    c.if-spent-width.false c.requires.prepared.linked c.read_plan.ensures
+    let M = numbers-kept (search rules) N in
+    let X = taken_off M e c.excess_costs-base.ensures in
+    plan-at M K X (omega (arith, c.if-columns-base.false)) c.min.ensures _ (omega (arith, c.requires.plan_at_in.sized, c.value_at.auto.table))
+    (c.in_ok-spent.ensures _ 0 (left M K X) refl) c.requires.prepared.linked c.read_plan.ensures

@@ -1,44 +1,26 @@
 -- `rounds_by` is right: each outcome of the rounds is one answer of 02, the cheapest plan is judged as every plan is, and the floor of the last k run is the
 -- largest.
-use borrow.Author.Rules.{rules}
-use mathlib.Core.Path.{ap, sym}
 use native.Mathlib.Omega.{arith}
-use lib.Seq.{length-take-le}
-use Rattle.rules.specs.declared.Judged.{Judged}
-use Rattle.words.specs.Held.{held-accepted}
-use Rattle.planning.specs.Calls.{slack-told}
-use Rattle.rounds_planning.specs.Calls.{rounds-late, rounds-short, best_of_net, best-fits, rounds-judged}
+use Rattle.std.proofs.lemmas.Result.{err_from_is_err_and}
+use Rattle.rounds_planning.specs.Calls.{rounds-unplanned, best_of_net, best-fits, rounds-found-told}
 use Rattle.rounds_planning.proofs.rounds_by.Goals as goal
 
-pub slice_bounds-judged_by-end-in-Found : goal.slice_bounds-judged_by-end-in-Found
-slice_bounds-judged_by-end-in-Found c = sym (length-take-le _ _ (search rules))
+pub returns-in_err-found-clause-answer : goal.returns-in_err-found-clause-answer
+returns-in_err-found-clause-answer c = λ bs h.
+    let p = err_from_is_err_and c.from_residual.result c.from_residual.ensures.1 in
+    rw (p.1, p.2) (rounds-unplanned bs _ _ _ c.requires.0 h _ c.in_err-found.ensures)
 
-pub judged_by-answer-requires : goal.judged_by-answer-requires
-judged_by-answer-requires c =
-    let P = c.requires in
-    ((_, P.0.held), P.1, best-fits _ _ P.0 (rw c.in-Found.is at c.rounds_stages-outcome.ensures))
+pub judged_plan-requires : goal.judged_plan-requires
+judged_plan-requires c =
+    let (G, S) = c.requires in
+    let I = c.in_ok-found.ensures in
+    let B = best_of_net _ _ G I in
+    (S, best-fits _ _ G I, B.floor-low)
 
-pub overflow_mul-result : goal.overflow_mul-result
-overflow_mul-result c =
-    let B = best_of_net _ _ c.requires.0 (rw c.in-Found.is at c.rounds_stages-outcome.ensures) in
-    omega (arith, B.floor-low)
+pub returns-clause-answer : goal.returns-clause-answer
+returns-clause-answer c = λ bs h. rounds-found-told bs _ _ _ c.requires.0 h c.in_ok-found.ensures c.judged_plan.ensures
 
-pub overflow_sub-result : goal.overflow_sub-result
-overflow_sub-result c =
-    let B = best_of_net _ _ c.requires.0 (rw c.in-Found.is at c.rounds_stages-outcome.ensures) in
-    omega (arith, B.k-most)
-
-pub returns-in-Late : goal.returns-in-Late
-returns-in-Late c =
-    λ bs h. rw c.rounds_refused.ensures (rounds-late bs _ _ _ c.requires.0 h (rw c.in-Late.is at c.rounds_stages-outcome.ensures))
-
-pub returns-in-Short : goal.returns-in-Short
-returns-in-Short c =
-    λ bs h. rw c.rounds_refused-in-Short.ensures (rounds-short bs _ _ _ c.requires.0 h (rw c.in-Short.is at c.rounds_stages-outcome.ensures))
-
-pub returns-in-Found : goal.returns-in-Found
-returns-in-Found c =
-    let G = c.requires.0 in
-    let I = rw c.in-Found.is at c.rounds_stages-outcome.ensures in
-    let e = c.judged_by-answer.ensures in
-    λ bs h. rounds-judged bs _ _ _ G h I (ap (λ (j : Judged). j.cost) e) (slack-told (held-accepted G.held) _ e)
+pub returns-clause-some_run : goal.returns-clause-some_run
+returns-clause-some_run c =
+    let B = best_of_net _ _ c.requires.0 c.in_ok-found.ensures in
+    rw c.judged_plan.ensures (omega (arith, B.k-most))

@@ -4,16 +4,8 @@ use native.Mathlib.Omega.{arith}
 use Rattle.rounds_search.proofs.Rounds.{copied-plan, best-kept, best_replaced}
 use Rattle.rounds_search.proofs.keep_cheaper.Goals as goal
 
-pub rounded_cost-found-requires : goal.rounded_cost-found-requires
-rounded_cost-found-requires c =
-    let P = c.requires.0 in
-    record { tree = P.tree; costs = P.costs; long = P.long; meets = P.meets; some-grain = omega arith }
-
 pub returns-then-least-found : goal.returns-then-least-found
 returns-then-least-found c = λ T C M l. best-kept T _ _ _ l (c.rounded_cost-found.ensures T 0 C refl M) (omega arith)
-
-pub copy_plan-requires : goal.copy_plan-requires
-copy_plan-requires c = (c.requires.0.long, c.requires.1)
 
 pub returns : goal.returns
 returns c = λ T C M l.

@@ -4,7 +4,5 @@ use Rattle.rows.proofs.fill_rows.Given as goal
 
 abbrev pub invariant-loop-i : goal.invariant-loop-i
 invariant-loop-i l =
-    RowsFrom l.initial.table l.driver l.delay l.limit l.cost l.early l.late l.initial.starts l.initial.ends l.n.stages l.n.layers l.n.grain l.n.width l.table l.starts l.ends l.i
-
-abbrev pub decreases-loop-i : goal.decreases-loop-i
-decreases-loop-i l = l.i
+    RowsFrom l.initial.table l.tree.driver.now l.tree.delay.now l.tree.limit.now l.tree.cost.now l.windows.early.now l.windows.late.now
+    l.initial.starts l.initial.ends l.tree.stages l.tree.layers l.n.grain l.n.width l.table l.starts l.ends l.i

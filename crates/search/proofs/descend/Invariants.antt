@@ -5,7 +5,5 @@ use Rattle.search.proofs.descend.Given as goal
 
 abbrev pub invariant-loop-k : goal.invariant-loop-k
 invariant-loop-k l =
-    Descending l.initial.table l.driver l.delay l.limit l.cost l.stages l.layers l.arrival l.p l.q l.initial.known l.columns l.table l.known l.k l.g
-
-abbrev pub decreases-loop-k : goal.decreases-loop-k
-decreases-loop-k l = l.k
+    Descending l.initial.table l.tree.driver.now l.tree.delay.now l.tree.limit.now l.tree.cost.now l.tree.stages l.tree.layers l.tree.arrival
+    l.share.p l.share.q l.initial.known l.columns l.table l.known l.k l.g

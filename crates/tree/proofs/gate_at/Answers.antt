@@ -1,34 +1,27 @@
 -- `gate_at` is right: the kind in a node's row tells what drives the wire below it, the driver's row being that of a buffer.
 use mathlib.Core.Path.{◌≡◌, ap, sym, ◌∙◌}
+use mathlib.Core.List.{List}
+use mathlib.Core.Logic.{inl, inr}
+use Prim.Native.Nat.{ℕ, ◌≤◌}
 use Rattle.rules.specs.declared.Kind.{Kind}
 use Rattle.words.specs.declared.Node.{Node}
-use Rattle.words.specs.Words.{net_in}
+use Rattle.words.specs.Words.{record_in, net_in}
+use Rattle.words.specs.Held.{Held}
+use Rattle.words.specs.Net.{held}
 use Rattle.tree.specs.Gates.{kind_gate, gate_of, gate_is}
 use Rattle.tree.proofs.gate_at.Goals as goal
 
-gate : (c : goal.In-Steiner) {k : Kind} → c.node_in-node.result.kind ≡ k
-    → kind_gate k ≡ gate_of (net_in c.args.words.now) c.args.i
-gate c e =
-    ap kind_gate (sym e) ∙ ap (λ (r : Node). kind_gate r.kind) c.node_in-node.ensures ∙
-    gate_is c.args.i c.requires.2 c.requires.3
-
-pub returns-in-Steiner : goal.returns-in-Steiner
-returns-in-Steiner c = gate c c.in-Steiner.is
-
-gate_2 : (c : goal.In-Buffer) {k : Kind} → c.node_in-node.result.kind ≡ k
-    → kind_gate k ≡ gate_of (net_in c.args.words.now) c.args.i
-gate_2 c e =
-    ap kind_gate (sym e) ∙ ap (λ (r : Node). kind_gate r.kind) c.node_in-node.ensures ∙
-    gate_is c.args.i c.requires.2 c.requires.3
+-- The node that was read from row i, and its kind.
+gate : {w : List ℕ} {nodes layers i : ℕ} {node : Node} {k : Kind} → Held w nodes layers → i ≤ nodes → node ≡ record_in w i → node.kind ≡ k
+    → kind_gate k ≡ gate_of (net_in w) i
+gate {i = i} H h r e = ap kind_gate (sym e) ∙ ap (λ (n : Node). kind_gate n.kind) r ∙ gate_is i H h
 
 pub returns-in-Buffer : goal.returns-in-Buffer
-returns-in-Buffer c = gate_2 c c.in-Buffer.is
+returns-in-Buffer c = gate (held c.args.net.now.held) c.requires c.node_in.ensures c.in-Buffer.is
 
-gate_3 : (c : goal.In-Sink) {k : Kind} → c.node_in-node.result.kind ≡ k
-    → kind_gate k ≡ gate_of (net_in c.args.words.now) c.args.i
-gate_3 c e =
-    ap kind_gate (sym e) ∙ ap (λ (r : Node). kind_gate r.kind) c.node_in-node.ensures ∙
-    gate_is c.args.i c.requires.2 c.requires.3
-
-pub returns-in-Sink : goal.returns-in-Sink
-returns-in-Sink c = gate_3 c c.in-Sink.is
+pub returns-in-Steiner : goal.returns-in-Steiner
+returns-in-Steiner c =
+    elim c.in-Steiner.is [
+      | inl e ↦ gate (held c.args.net.now.held) c.requires c.node_in.ensures e
+      | inr s ↦ gate (held c.args.net.now.held) c.requires c.node_in.ensures s.2
+    ]

@@ -1,11 +1,7 @@
 -- `node_at` is right: row j is node j.
 use mathlib.Core.Path.{◌∙◌}
-use native.Mathlib.Omega.{arith}
 use Rattle.words.specs.Held.{row_in}
 use Rattle.words.proofs.node_at.Goals as goal
-
-pub node_in-requires : goal.node_in-requires
-node_in-requires c = let s = c.requires in let r = row_in s.2 s.3 s.4 in omega (arith, s.2.long)
 
 pub returns : goal.returns
 returns c = let s = c.requires in c.node_in.ensures ∙ (row_in s.2 s.3 s.4).is

@@ -1,10 +1,7 @@
 -- `unit_res` is right: its number stands at its place in the array.
-use native.Mathlib.Omega.{arith}
+use mathlib.Core.Path.{◌∙◌}
 use Rattle.words.specs.Held.{layer-read}
 use Rattle.words.proofs.unit_res.Goals as goal
 
-pub overflow_cast-result : goal.overflow_cast-result
-overflow_cast-result c = record { fits = omega (arith, c.type_inv.words c.args.l) }
-
 pub returns : goal.returns
-returns c = (layer-read c.requires.2 c.requires.3).res_is
+returns c = c.from.ensures ∙ (layer-read c.requires.2 c.requires.3).res_is

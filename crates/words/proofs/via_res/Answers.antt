@@ -1,12 +1,7 @@
 -- `via_res` is right: its number stands at its place in the array.
-use Prim.Native.Nat.{◌+◌}
-use native.Mathlib.Omega.{arith}
-use Rattle.words.specs.Words.{vias_at}
+use mathlib.Core.Path.{◌∙◌}
 use Rattle.words.specs.Held.{layer-read}
 use Rattle.words.proofs.via_res.Goals as goal
 
-pub overflow_cast-result : goal.overflow_cast-result
-overflow_cast-result c = record { fits = omega (arith, c.type_inv.words (vias_at + c.args.l)) }
-
 pub returns : goal.returns
-returns c = (layer-read c.requires.2 c.requires.3).via-is
+returns c = c.from.ensures ∙ (layer-read c.requires.2 c.requires.3).via-is
