@@ -1,16 +1,16 @@
 // The cost of each stage on each layer, and of a plan (01, Timing rule: cost is the sum of all edge costs on their layers).
 #![tactic(auto)]
 
-ghost use Rattle.std.specs.Prelude.{◌≡◌, List, ℕ, ◌+◌, ◌*◌, ◌≤◌, replicate};
+ghost use Rattle.std.specs.Prelude.{◌≡◌, ◌+◌, ◌*◌, ◌≤◌, replicate};
 ghost use Rattle.rules.specs.Bytes.{max_layers, max_stages};
 ghost use Rattle.rules.specs.Timing.{cost};
 ghost use Rattle.words.specs.Net.{net_of};
-ghost use Rattle.tree.specs.Staged.{Staged};
 ghost use Rattle.tree.specs.Plans.{Fitting};
 ghost use Rattle.slices.specs.Rows.{RowSet};
 ghost use Rattle.costs.specs.Priced.{Priced};
 ghost use Rattle.costs.specs.Adding.{Room, cost_with};
 
+use tree::StagedNet;
 use words::Net;
 
 // Adds the costs of the edge to node j to those of stage t, on each layer.
@@ -24,24 +24,24 @@ fn add_costs(net: &Net<'_>, j: usize, t: usize, costs: &mut [u64])
 }
 
 // The cost of each stage on each layer: entry t * MAX_LAYERS + l becomes that of stage t on layer l.
-pub fn stage_costs(net: &Net<'_>, stage: &[usize], costs: &mut [u64])
-    requires { (below : List ℕ) × Staged (net_of net.now) stage.now below × (costs.old ≡ replicate (max_stages * max_layers) 0) }
-    ensures { Priced (net_of net.now) costs.new }
+pub fn stage_costs(staged: &StagedNet<'_>, costs: &mut [u64])
+    requires { costs.old ≡ replicate (max_stages * max_layers) 0 }
+    ensures { Priced (net_of staged.now.net) costs.new }
 {
-    for j in 1..=net.nodes {
-        add_costs(net, j, stage[j], costs);
+    for j in 1..=staged.net.nodes {
+        add_costs(&staged.net, j, staged.stage[j], costs);
     }
 }
 
 // The cost of a plan: that of each edge on the layer of its stage, summed.
-pub fn plan_cost(net: &Net<'_>, stage: &[usize], plan: &[u8]) -> u64
-    requires { ((below : List ℕ) × Staged (net_of net.now) stage.now below) × Fitting (net_of net.now) plan.now }
-    ensures { result ≡ cost (net_of net.now) plan.now }
+pub fn plan_cost(staged: &StagedNet<'_>, plan: &[u8]) -> u64
+    requires { Fitting (net_of staged.now.net) plan.now }
+    ensures { result ≡ cost (net_of staged.now.net) plan.now }
 {
     let mut total: u64 = 0;
-    for j in 1..=net.nodes {
-        let l = usize::from(plan[stage[j]]);
-        total += net.edge_cost(j, l);
+    for j in 1..=staged.net.nodes {
+        let l = usize::from(plan[staged.stage[j]]);
+        total += staged.net.edge_cost(j, l);
     }
     total
 }

@@ -2,14 +2,13 @@
 // rows and columns: judging has one column, the plan's layer, and planning one for each layer.
 #![tactic(auto)]
 
-ghost use Rattle.std.specs.Prelude.{◌≡◌, false, List, ℕ, ◌+◌, ◌*◌, ◌≤◌, ◌<◌, length, if◌then◌else◌};
+ghost use Rattle.std.specs.Prelude.{◌≡◌, false, ◌+◌, ◌*◌, ◌≤◌, ◌<◌, length, if◌then◌else◌};
 ghost use Rattle.rules.specs.Bytes.{max_via_res, max_gate_res, max_intrinsic, max_layers, max_nodes};
 ghost use Rattle.facts.specs.Layers.{NoVias};
 ghost use Rattle.facts.specs.Ranges.{max_edge_res, max_edge_cap};
 ghost use Rattle.facts.specs.Loads.{max_load};
 ghost use Rattle.facts.specs.Fits.{half_range};
 ghost use Rattle.words.specs.Net.{net_of};
-ghost use Rattle.tree.specs.Staged.{Staged};
 ghost use Rattle.tree.specs.Plans.{Fitting};
 ghost use Rattle.tree.specs.declared.Gate.TheVariants.{Wire};
 ghost use Rattle.slices.specs.Rows.{RowSet};
@@ -21,7 +20,7 @@ ghost use Rattle.delays.specs.Delayed.{Delayed, PlanDelays, LayerDelays, GateIn,
 
 use loads::{NODE_ROWS, loads, lower_load};
 use rules::Kind;
-use tree::{Gate, gate_at};
+use tree::{Gate, StagedNet, gate_at};
 use words::{Net, Node};
 
 // Gate delay: 2 × gate resistance × load at the root, plus intrinsic delay, and 2 × via resistance × load for the via there.
@@ -115,56 +114,47 @@ fn add_vias(net: &Net<'_>, columns: usize, layer: usize, pin: u64, j: usize, del
 }
 
 // The delay from the gate input of its stage to each node in each column, from the first node to the last.
-fn delays(
-    net: &Net<'_>,
-    below: &[usize],
-    first: &[u8],
-    columns: usize,
-    load: &[u32],
-    delay: &mut [u64],
-)
-    requires { ((stage : List ℕ) × Staged (net_of net.now) stage below.now) ×
-        Columns (net_of net.now) first.now columns × Loaded (net_of net.now) first.now columns load.now ×
+fn delays(staged: &StagedNet<'_>, first: &[u8], columns: usize, load: &[u32], delay: &mut [u64])
+    requires { Columns (net_of staged.now.net) first.now columns × Loaded (net_of staged.now.net) first.now columns load.now ×
         ((max_nodes + 1) * columns ≤ length delay.old) }
-    ensures { Delayed (net_of net.now) first.now columns delay.new }
+    ensures { Delayed (net_of staged.now.net) first.now columns delay.new }
 {
-    let vias = has_vias(net);
-    for j in 1..=net.nodes {
-        let node = net.node(j);
-        let gate = gate_at(net, node.parent);
-        let layer = usize::from(first[below[node.parent]]);
+    let vias = has_vias(&staged.net);
+    for j in 1..=staged.net.nodes {
+        let node = staged.net.node(j);
+        let gate = gate_at(&staged.net, node.parent);
+        let layer = usize::from(first[staged.below[node.parent]]);
         let edge = Edge {
             node,
             j,
             gate,
             layer,
         };
-        set_delays(net, columns, edge, load, delay);
+        set_delays(&staged.net, columns, edge, load, delay);
         let pin = paid_cap(node.kind, vias);
         if 0 < pin {
-            add_vias(net, columns, layer, pin, j, delay);
+            add_vias(&staged.net, columns, layer, pin, j, delay);
         }
     }
 }
 
 // The delay to each node under a plan: entry j becomes that of node j.
-pub fn plan_delays(net: &Net<'_>, below: &[usize], plan: &[u8], delay: &mut [u64])
-    requires { ((stage : List ℕ) × Staged (net_of net.now) stage below.now) ×
-        Fitting (net_of net.now) plan.now × (length delay.old ≡ max_nodes + 1) }
-    ensures { PlanDelays (net_of net.now) plan.now delay.new }
+pub fn plan_delays(staged: &StagedNet<'_>, plan: &[u8], delay: &mut [u64])
+    requires { Fitting (net_of staged.now.net) plan.now × (length delay.old ≡ max_nodes + 1) }
+    ensures { PlanDelays (net_of staged.now.net) plan.now delay.new }
 {
     let mut load = [0u32; NODE_ROWS];
-    loads(net, below, plan, 1, &mut load);
-    delays(net, below, plan, 1, &load, delay);
+    loads(staged, plan, 1, &mut load);
+    delays(staged, plan, 1, &load, delay);
 }
 
 // The delay to each node on each layer: entry j * layers + l becomes that of node j on layer l.
-pub fn layer_delays(net: &Net<'_>, below: &[usize], delay: &mut [u64])
-    requires { ((stage : List ℕ) × Staged (net_of net.now) stage below.now) × (length delay.old ≡ (max_nodes + 1) * max_layers) }
-    ensures { LayerDelays (net_of net.now) net.now.layers delay.new }
+pub fn layer_delays(staged: &StagedNet<'_>, delay: &mut [u64])
+    requires { length delay.old ≡ (max_nodes + 1) * max_layers }
+    ensures { LayerDelays (net_of staged.now.net) staged.now.net.layers delay.new }
 {
     let first = [0u8; rules::MAX_STAGES];
     let mut load = [0u32; NODE_ROWS * rules::MAX_LAYERS];
-    loads(net, below, &first, net.layers, &mut load);
-    delays(net, below, &first, net.layers, &load, delay);
+    loads(staged, &first, staged.net.layers, &mut load);
+    delays(staged, &first, staged.net.layers, &load, delay);
 }

@@ -3,12 +3,11 @@
 // 32 bits, which they always fit. The walk that sums them also counts the edges of each stage (02, wish 4).
 #![tactic(auto)]
 
-ghost use Rattle.std.specs.Prelude.{◌≡◌, List, map, ℕ, ◌+◌, ◌≤◌, ◌<◌, length, get_or};
+ghost use Rattle.std.specs.Prelude.{◌≡◌, map, ℕ, ◌+◌, ◌≤◌, ◌<◌, length, get_or};
 ghost use Rattle.laws.specs.Basic.{from, sum};
 ghost use Rattle.rules.specs.Tree.{stages, edges_of};
 ghost use Rattle.facts.specs.Loads.{max_load};
 ghost use Rattle.words.specs.Net.{net_of};
-ghost use Rattle.tree.specs.Staged.{Staged};
 ghost use Rattle.slices.specs.Rows.{entry, RowSet};
 ghost use Rattle.loads.specs.Tables.{RowMost};
 ghost use Rattle.loads.specs.Columns.{Columns};
@@ -16,6 +15,7 @@ ghost use Rattle.loads.specs.Edges.{EdgeIn, lower_of, added_on};
 ghost use Rattle.loads.specs.Loaded.{Loaded, Unloaded};
 
 use rules::Kind;
+use tree::StagedNet;
 use words::{Net, Node};
 
 // The rows of a table by node: the driver's and one for each node.
@@ -50,24 +50,22 @@ fn add_loads(net: &Net<'_>, columns: usize, node: Node, layer: usize, j: usize, 
 // The load at each node in each column, and the number of edges of each stage, by one walk from the last node to the first: each edge adds to the load at its
 // upper end and is counted to the stage of the wire below that end. No list of a stage's edges is made.
 pub fn loads(
-    net: &Net<'_>,
-    below: &[usize],
+    staged: &StagedNet<'_>,
     first: &[u8],
     columns: usize,
     load: &mut [u32],
 ) -> [usize; rules::MAX_STAGES]
-    requires { ((stage : List ℕ) × Staged (net_of net.now) stage below.now) ×
-        Columns (net_of net.now) first.now columns × Unloaded columns load.old }
-    ensures { Loaded (net_of net.now) first.now columns load.new ×
-        ((t : ℕ) → get_or result t 0 ≡ length (edges_of (net_of net.now) t)) ×
-        (sum (map (λ t. get_or result t 0) (from 0 (stages (net_of net.now)))) ≡ net.now.nodes) }
+    requires { Columns (net_of staged.now.net) first.now columns × Unloaded columns load.old }
+    ensures { Loaded (net_of staged.now.net) first.now columns load.new ×
+        ((t : ℕ) → get_or result t 0 ≡ length (edges_of (net_of staged.now.net) t)) ×
+        (sum (map (λ t. get_or result t 0) (from 0 (stages (net_of staged.now.net)))) ≡ staged.now.net.nodes) }
 {
     let mut edges = [0usize; rules::MAX_STAGES];
-    for j in (1..=net.nodes).rev() {
-        let node = net.node(j);
-        let stage = below[node.parent];
+    for j in (1..=staged.net.nodes).rev() {
+        let node = staged.net.node(j);
+        let stage = staged.below[node.parent];
         let layer = usize::from(first[stage]);
-        add_loads(net, columns, node, layer, j, load);
+        add_loads(&staged.net, columns, node, layer, j, load);
         edges[stage] += 1;
     }
     edges

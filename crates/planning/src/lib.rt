@@ -14,7 +14,7 @@ ghost use Rattle.tree.specs.Plans.{Fitting};
 ghost use Rattle.slices.specs.Laid.{Laid, no_limit};
 ghost use Rattle.search.specs.Planned as search;
 ghost use Rattle.planning.specs.Calls.{Admitted, PlansNet, told};
-ghost use Rattle.planning.specs.Nets.{NetStaged, NetAdmitted};
+ghost use Rattle.planning.specs.Nets.{NetAdmitted};
 
 use costs::stage_costs;
 use delays::layer_delays;
@@ -24,20 +24,11 @@ use search::{Found, Share, Unplanned, plan_tree};
 use slices::{STAGE_ENTRIES, Tree};
 use stage_numbers::stage_numbers;
 use timing::judged_by;
-use tree::stages;
+use tree::{StagedNet, stages};
 use words::Net;
 
 // What stands for no limit at all: no time that is compared with it is later.
 pub const NO_LIMIT: i64 = 0x4000_0000_0000_0000;
-
-// A net that was read, with how many stages it has, and of each node the stage of its edge and the stage below it (crate tree).
-#[derive(Clone, Copy)]
-pub struct StagedNet<'a> {
-    pub net: Net<'a>,
-    pub stages: usize,
-    pub stage: &'a [usize],
-    pub below: &'a [usize],
-}
 
 // The numbers of a net's tree of stages, for the search: for each stage its driver, and on each layer the delay to it, the limit of its sinks and its cost.
 // Kept: four arrays lent by the caller: handed back in a struct they stood on the stack three times more, 77,000 bytes.
@@ -48,34 +39,27 @@ pub fn numbers(
     limit: &mut [i64],
     costs: &mut [u64],
 )
-    requires { NetStaged staged.now × (length driver.old ≡ max_stages) × (length wire.old ≡ max_stages * max_layers) ×
+    requires { (length driver.old ≡ max_stages) × (length wire.old ≡ max_stages * max_layers) ×
         (limit.old ≡ replicate (max_stages * max_layers) no_limit) × (costs.old ≡ replicate (max_stages * max_layers) 0) }
     ensures { Laid (tree_of (net_of staged.now.net)) driver.new wire.new limit.new costs.new }
 {
     let mut delay = [0u64; NODE_ROWS * rules::MAX_LAYERS];
-    layer_delays(&staged.net, staged.below, &mut delay);
-    stage_numbers(
-        &staged.net,
-        staged.stage,
-        staged.below,
-        &delay,
-        driver,
-        wire,
-        limit,
-    );
-    stage_costs(&staged.net, staged.stage, costs);
+    layer_delays(staged, &mut delay);
+    stage_numbers(staged, &delay, driver, wire, limit);
+    stage_costs(staged, costs);
 }
 
-// What the search over the tree of stages of a net finds.
+// What the search over the tree of stages of a net finds, which has `count` of them.
 // Kept: rounds_planning::rounds_stages has these lines with its own search, as `plan_by` says.
 fn plan_stages(
     staged: &StagedNet<'_>,
+    count: usize,
     share: Share,
     table: &mut [i64],
     plan: &mut [u8],
 ) -> Result<Found, Unplanned>
-    requires { NetAdmitted staged.now share (length plan.old) }
-    ensures { search.Planned (tree_of (net_of staged.now.net)) share.p share.q staged.now.stages table.old table.new plan.old plan.new result }
+    requires { NetAdmitted staged.now.net count share (length plan.old) }
+    ensures { search.Planned (tree_of (net_of staged.now.net)) share.p share.q count table.old table.new plan.old plan.new result }
 {
     let mut driver = [0usize; rules::MAX_STAGES];
     let mut wire = [0u64; STAGE_ENTRIES];
@@ -87,7 +71,7 @@ fn plan_stages(
         delay: &wire,
         limit: &limit,
         cost: &costs,
-        stages: staged.stages,
+        stages: count,
         layers: staged.net.layers,
         arrival: staged.net.arrival(),
     };
@@ -105,7 +89,7 @@ pub struct JudgedPlan {
 
 // What planning tells of the plan that was found.
 pub fn judged_plan(staged: &StagedNet<'_>, plan: &[u8], found: Found) -> JudgedPlan
-    requires { NetStaged staged.now × Fitting (net_of staged.now.net) plan.now × (found.g * found.value < 2 ^ max_exponent) }
+    requires { Fitting (net_of staged.now.net) plan.now × (found.g * found.value < 2 ^ max_exponent) }
     ensures { result ≡ record {
       cost = cost (net_of staged.now.net) plan.now;
       slack = slack (net_of staged.now.net) plan.now;
@@ -113,7 +97,7 @@ pub fn judged_plan(staged: &StagedNet<'_>, plan: &[u8], found: Found) -> JudgedP
       floor = found.g * found.value;
     } }
 {
-    let answer = judged_by(&staged.net, staged.stage, staged.below, plan);
+    let answer = judged_by(staged, plan);
     JudgedPlan {
         cost: answer.cost,
         slack: answer.slack,
@@ -123,7 +107,7 @@ pub fn judged_plan(staged: &StagedNet<'_>, plan: &[u8], found: Found) -> JudgedP
 }
 
 // A refusal: the number and zeros.
-// Kept: it takes any number, as its clause says; a narrower type would ask more of callers.
+// Kept: the clause of this public function speaks of any number, and may not change.
 pub fn refused(r: u8) -> Planned
     ensures { result ≡ refused_with r }
 {
@@ -152,20 +136,21 @@ fn told(found: Result<JudgedPlan, Refusal>) -> Planned
     }
 }
 
-// Planning past refusals 1 to 10, the stage of each edge being known: the plan that 01 chooses, judged as every plan is, and the floor g × V(k); or 11, or 12.
+// Planning past refusals 1 to 10, for a net of `count` stages that are known: the plan that 01 chooses, judged as every plan is, and the floor g × V(k); or 11, or 12.
 // Kept: rounds_planning::rounds_by has these lines with its own search; one function for both would ask of a closure all that the clauses of the searches say.
 fn plan_by(
     staged: &StagedNet<'_>,
+    count: usize,
     share: Share,
     table: &mut [i64],
     plan: &mut [u8],
 ) -> Result<JudgedPlan, Refusal>
-    requires { NetAdmitted staged.now share (length plan.old) }
+    requires { NetAdmitted staged.now.net count share (length plan.old) }
     ensures { (bs : List ℕ) → read bs ≡ accept (net_of staged.now.net)
         → PlansNet bs share.p share.q table.old table.new plan.old plan.new (told result) }
 {
-    let found = plan_stages(staged, share, table, plan)?;
-    Ok(judged_plan(staged, &plan[..staged.stages], found))
+    let found = plan_stages(staged, count, share, table, plan)?;
+    Ok(judged_plan(staged, &plan[..count], found))
 }
 
 // Planning past refusals 1 to 10, for a net of `count` stages.
@@ -188,9 +173,8 @@ pub fn plan_net(
     stages(net, &mut stage, &mut below);
     let staged = StagedNet {
         net: *net,
-        stages: count,
         stage: &stage,
         below: &below,
     };
-    told(plan_by(&staged, Share { p, q }, table, plan))
+    told(plan_by(&staged, count, Share { p, q }, table, plan))
 }

@@ -9,11 +9,11 @@ ghost use Rattle.rules.specs.Tree.{at, is_terminal, is_root, drives};
 ghost use Rattle.rules.specs.Bytes.{max_nodes, max_stages};
 ghost use Rattle.rules.specs.Timing.{required, terminal_time};
 ghost use Rattle.words.specs.Net.{net_of};
-ghost use Rattle.tree.specs.Staged.{Staged};
 ghost use Rattle.required.specs.Links.{no_terminal, TerminalsLinked};
 ghost use Rattle.required.specs.Timed.{TimedBy};
 
 use rules::Kind;
+use tree::StagedNet;
 use words::Net;
 
 // What a link has where no further terminal follows: no node has this number.
@@ -47,14 +47,13 @@ fn is_terminal(kind: Kind) -> bool
 
 // Links the terminals of each stage: `first` gets for each stage the first of its terminals, `next` for each terminal the next of the same stage. They are put
 // in front of those that the stage has, from the last node on, so that the links go up in number.
-pub fn link_terminals(net: &Net<'_>, stage: &[usize], first: &mut [usize], next: &mut [usize])
-    requires { ((below : List ℕ) × Staged (net_of net.now) stage.now below) ×
-        (first.old ≡ replicate max_stages no_terminal) × (length next.old ≡ max_nodes + 1) }
-    ensures { TerminalsLinked (net_of net.now) first.new next.new }
+pub fn link_terminals(staged: &StagedNet<'_>, first: &mut [usize], next: &mut [usize])
+    requires { (first.old ≡ replicate max_stages no_terminal) × (length next.old ≡ max_nodes + 1) }
+    ensures { TerminalsLinked (net_of staged.now.net) first.new next.new }
 {
-    for j in (1..=net.nodes).rev() {
-        if is_terminal(net.node(j).kind) {
-            let t = stage[j];
+    for j in (1..=staged.net.nodes).rev() {
+        if is_terminal(staged.net.node(j).kind) {
+            let t = staged.stage[j];
             next[j] = first[t];
             first[t] = j;
         }

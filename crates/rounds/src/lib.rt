@@ -5,15 +5,19 @@
 ghost use Rattle.std.specs.Prelude.{◌≡◌, ℕ, ◌^◌, ◌≤◌, length};
 ghost use Rattle.oracle.specs.Stages.{StageTree};
 ghost use Rattle.rounds.specs.Problem.{NumbersOf};
-ghost use Rattle.rounds.specs.Clauses.{PrepareOf, Prepared, PreparedOf, RoundOf, ValueAt, Feasible, Known, PlanAtOf, PlanAt};
+ghost use Rattle.rounds.specs.Clauses.{PrepareOf, Prepared, RoundOf, ValueAt, Feasible, Known, PlanAtOf, PlanAt};
 
 use fanout::link;
 use readoff::{least_column, read_plan};
 use rounding::excess_costs;
 use rows::fill_rows;
 use rules::MAX_STAGES;
-use slices::{Bands, Links, Round, STAGE_ENTRIES, Tree, Windows};
+use slices::{Bands, Round, STAGE_ENTRIES, Tree};
 use windows::windows;
+
+mod prepared;
+
+pub use prepared::Ready;
 
 // The largest grain: every plan's cost is below it.
 pub const MAX_GRAIN: u64 = 268_435_456;
@@ -35,22 +39,27 @@ pub fn prepare(
 }
 
 // The bands of a round, and V(k) read off the first; none if it does not fit the width.
-// Kept: what stays for a call is in the structs; three arrays are lent to be written.
+// Kept: what stays for a call is in `ready`; three arrays are lent to be written.
 fn value_at(
     table: &mut [i64],
-    tree: &Tree<'_>,
-    links: &Links<'_>,
-    windows: &Windows<'_>,
+    ready: &Ready<'_>,
     starts: &mut [usize],
     ends: &mut [usize],
     n: Round,
 ) -> Option<usize>
-    requires round_in { RoundOf table.old tree.now starts.old ends.old n }
-    requires prepared { PreparedOf tree.now links.now windows.now }
-    ensures { (T : StageTree) (k : ℕ) → NumbersOf T tree.now → n.grain ≡ 2 ^ k → ValueAt T k n.width table.new starts.new ends.new result }
+    requires { RoundOf table.old ready.now.tree starts.old ends.old n }
+    ensures { (T : StageTree) (k : ℕ) → NumbersOf T ready.now.tree → n.grain ≡ 2 ^ k → ValueAt T k n.width table.new starts.new ends.new result }
 {
-    fill_rows(table, tree, links, windows, starts, ends, n);
-    let least = least_column(table, 0, starts[0], ends[0], n.width, tree.arrival);
+    fill_rows(
+        table,
+        &ready.tree,
+        &ready.links,
+        &ready.windows,
+        starts,
+        ends,
+        n,
+    );
+    let least = least_column(table, 0, starts[0], ends[0], n.width, ready.tree.arrival);
     if n.width <= least {
         return None;
     }
@@ -59,11 +68,10 @@ fn value_at(
 
 // Whether some plan meets timing, and if so the plan that 01 chooses at the largest grain, into the first bytes of `known`: there every rounded cost is 0, so
 // one column is enough.
-pub fn feasible(tree: &Tree<'_>, links: &Links<'_>, windows: &Windows<'_>, known: &mut [u8]) -> bool
-    requires some_tree { (T : StageTree) × NumbersOf T tree.now }
-    requires room { tree.now.stages ≤ length known.old }
-    requires prepared { PreparedOf tree.now links.now windows.now }
-    ensures { (T : StageTree) → NumbersOf T tree.now → Feasible T tree.now.stages known.new result }
+pub fn feasible(ready: &Ready<'_>, known: &mut [u8]) -> bool
+    requires some_tree { (T : StageTree) × NumbersOf T ready.now.tree }
+    requires room { ready.now.tree.stages ≤ length known.old }
+    ensures { (T : StageTree) → NumbersOf T ready.now.tree → Feasible T ready.now.tree.stages known.new result }
 {
     let n = Round {
         width: 1,
@@ -73,7 +81,7 @@ pub fn feasible(tree: &Tree<'_>, links: &Links<'_>, windows: &Windows<'_>, known
     let mut starts = [0usize; MAX_STAGES];
     // Kept: two arrays, as no heap is used and the rows fill them; they are read as one struct, `Bands`.
     let mut ends = [0usize; MAX_STAGES];
-    let least = value_at(&mut table, tree, links, windows, &mut starts, &mut ends, n);
+    let least = value_at(&mut table, ready, &mut starts, &mut ends, n);
     if least.is_none() {
         return false;
     }
@@ -82,48 +90,57 @@ pub fn feasible(tree: &Tree<'_>, links: &Links<'_>, windows: &Windows<'_>, known
         ends: &ends,
     };
     let mut times = [0i64; MAX_STAGES];
-    read_plan(&table, tree, links, &bands, n, &mut times, known);
+    read_plan(
+        &table,
+        &ready.tree,
+        &ready.links,
+        &bands,
+        n,
+        &mut times,
+        known,
+    );
     true
 }
 
 // V(k) at the grain g, and into `known` the plan that 01 chooses at that grain; or none if V(k) is no less than `columns`. `known` holds a plan that meets
 // timing, and `bound` is its rounded cost, which V(k) does not exceed. The columns of the rows count what is spent above the least of each stage.
-// Kept: what stays for a call is in the structs; what is left differs from round to round.
+// Kept: what stays for a call is in `ready`; what is left differs from round to round.
 pub fn plan_at(
     table: &mut [i64],
-    tree: &Tree<'_>,
-    links: &Links<'_>,
-    windows: &Windows<'_>,
+    ready: &Ready<'_>,
     g: u64,
     columns: usize,
     bound: usize,
     known: &mut [u8],
 ) -> Option<usize>
-    requires plan_at_in { PlanAtOf table.old tree.now g columns bound known.old }
-    requires prepared { PreparedOf tree.now links.now windows.now }
-    ensures { (T : StageTree) (k : ℕ) → NumbersOf T tree.now → g ≡ 2 ^ k → Known T k tree.now.stages known.old bound
-        → PlanAt T k columns tree.now.stages known.new result }
+    requires { PlanAtOf table.old ready.now.tree g columns bound known.old }
+    ensures { (T : StageTree) (k : ℕ) → NumbersOf T ready.now.tree → g ≡ 2 ^ k → Known T k ready.now.tree.stages known.old bound
+        → PlanAt T k columns ready.now.tree.stages known.new result }
 {
     let mut excess = [0u64; STAGE_ENTRIES];
-    let base = excess_costs(tree, g, &mut excess);
+    let base = excess_costs(&ready.tree, g, &mut excess);
     if columns <= base {
         return None;
     }
     let width = columns.min(bound + 1) - base;
     let n = Round { width, grain: 1 };
-    let left = Tree {
-        cost: &excess,
-        ..*tree
+    let left = Ready {
+        tree: Tree {
+            cost: &excess,
+            ..ready.tree
+        },
+        links: ready.links,
+        windows: ready.windows,
     };
     let mut starts = [0usize; MAX_STAGES];
     // Kept: two arrays, as no heap is used and the rows fill them; they are read as one struct, `Bands`.
     let mut ends = [0usize; MAX_STAGES];
-    let spent = value_at(table, &left, links, windows, &mut starts, &mut ends, n)?;
+    let spent = value_at(table, &left, &mut starts, &mut ends, n)?;
     let bands = Bands {
         starts: &starts,
         ends: &ends,
     };
     let mut times = [0i64; MAX_STAGES];
-    read_plan(table, &left, links, &bands, n, &mut times, known);
+    read_plan(table, &left.tree, &left.links, &bands, n, &mut times, known);
     Some(base + spent)
 }

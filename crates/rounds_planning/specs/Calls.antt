@@ -11,10 +11,9 @@ use Rattle.rules.specs.Reading.{accept, refuse, read}
 use Rattle.rules.specs.Planning.{cleared}
 use Rattle.rules.specs.Rounds.{max_rounds, last_run, highest_floor, RoundsChoice, planned_rounds, plan_rounds, rounds_answer}
 use Rattle.words.specs.Words.{net_in}
-use Rattle.words.specs.Net.{net_of}
+use Rattle.words.specs.declared.net.Net as words
 use Rattle.words.specs.Held.{Held, held-accepted}
 use Rattle.tree.specs.Plans.{Fitting}
-use Rattle.tree.specs.Staged.{Staged}
 use Rattle.demands.specs.StageNumbers.{tree_of}
 use Rattle.demands.specs.RoundsCall.{rounds_in, rounds_11, rounds_12, rounds_pass, rounds_refused, rounds-accepted, rounds-refused}
 use Rattle.slices.specs.Laid.{Laid}
@@ -23,7 +22,6 @@ use Rattle.search.specs.Planned.{IsLate, refusal_of}
 use Rattle.search.specs.declared.Unplanned.{Unplanned}
 use Rattle.search.specs.declared.Unplanned.TheVariants.{Late, Short}
 use Rattle.planning.specs.declared.JudgedPlan.{JudgedPlan}
-use Rattle.planning.specs.declared.StagedNet.{StagedNet}
 use Rattle.planning.specs.Outcomes.{numbers_of, none-meets}
 use Rattle.planning.specs.Calls.{plan-fitting}
 use Rattle.rounds_search.specs.Planned.{NoColumn, IsBest, BestPlanned}
@@ -37,9 +35,9 @@ pub record RoundsAdmitted (w : List ℕ) (nodes layers s r room : ℕ) : Type 0 
   pub most-rounds : r ≤ max_rounds
   pub room-enough : s ≤ room
 
--- The same of a net as it is lent on, the stage of each edge being known.
-abbrev pub NetRuns : StagedNet → (r room : ℕ) → Type 0
-NetRuns n r room = RoundsAdmitted n.net.words.now n.net.nodes n.net.layers n.stages r room × Staged (net_of n.net) n.stage.now n.below.now
+-- The same of a net as it is lent on, of so many stages.
+abbrev pub NetRuns : words.Net → (count r room : ℕ) → Type 0
+NetRuns n count r room = RoundsAdmitted n.words.now n.nodes n.layers count r room
 
 -- The numbers that the rounds are given.
 pub numbers_in_lem : {w : List ℕ} {nodes layers s r room : ℕ} → RoundsAdmitted w nodes layers s r room → {driver wire : List ℕ} {limit : List ℤ} {costs : List ℕ}

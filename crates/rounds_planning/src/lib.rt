@@ -12,24 +12,25 @@ ghost use Rattle.rounds_search.specs.Planned.{BestPlanned};
 ghost use Rattle.rounds_planning.specs.Calls.{RoundsAdmitted, NetRuns, PlansRounds, rounds_told};
 
 use loads::NODE_ROWS;
-use planning::{JudgedPlan, NO_LIMIT, StagedNet, judged_plan, numbers};
+use planning::{JudgedPlan, NO_LIMIT, judged_plan, numbers};
 use rounds_search::best_of_rounds;
 use rules::{MAX_ROUNDS, Refusal, RoundsPlanned};
 use search::{Found, Unplanned};
 use slices::{STAGE_ENTRIES, Tree};
-use tree::stages;
+use tree::{StagedNet, stages};
 use words::Net;
 
-// What r rounds over the tree of stages of a net find: the last is due at k = 29 − r.
+// What r rounds over the tree of stages of a net, which has `count` of them, find: the last is due at k = 29 − r.
 // Kept: planning::plan_stages has these lines with its own search, as `rounds_by` says.
 fn rounds_stages(
     staged: &StagedNet<'_>,
+    count: usize,
     r: u64,
     table: &mut [i64],
     plan: &mut [u8],
 ) -> Result<Found, Unplanned>
-    requires { NetRuns staged.now r (length plan.old) }
-    ensures { BestPlanned (tree_of (net_of staged.now.net)) (last_run r) staged.now.stages table.old table.new plan.old plan.new result }
+    requires { NetRuns staged.now.net count r (length plan.old) }
+    ensures { BestPlanned (tree_of (net_of staged.now.net)) (last_run r) count table.old table.new plan.old plan.new result }
 {
     let mut driver = [0usize; rules::MAX_STAGES];
     let mut wire = [0u64; STAGE_ENTRIES];
@@ -41,7 +42,7 @@ fn rounds_stages(
         delay: &wire,
         limit: &limit,
         cost: &costs,
-        stages: staged.stages,
+        stages: count,
         layers: staged.net.layers,
         arrival: staged.net.arrival(),
     };
@@ -50,7 +51,7 @@ fn rounds_stages(
 }
 
 // A refusal: the number and zeros.
-// Kept: it takes any number, as its clause says; its answer has other fields than that of `planning::refused`, both flat for the C interface.
+// Kept: the clause of this public function speaks of any number, and may not change; its answer has other fields than that of `planning::refused`.
 pub fn rounds_refused(m: u8) -> RoundsPlanned
     ensures { result ≡ rounds_refused m }
 {
@@ -80,22 +81,23 @@ fn rounds_told(found: Result<JudgedPlan, Refusal>) -> RoundsPlanned
     }
 }
 
-// Planning by r rounds past refusals 1 to 6, 14 and 10, the stage of each edge being known: the cheapest plan of the rounds, judged as every plan is, the floor
-// of the last round, which is the largest, and the rounds run; or 11, or 12.
+// Planning by r rounds past refusals 1 to 6, 14 and 10, for a net of `count` stages that are known: the cheapest plan of the rounds, judged as every plan is, the
+// floor of the last round, which is the largest, and the rounds run; or 11, or 12.
 // Kept: planning::plan_by has these lines with its own search; one function for both would ask of a closure all that the clauses of the searches say.
 fn rounds_by(
     staged: &StagedNet<'_>,
+    count: usize,
     r: u64,
     table: &mut [i64],
     plan: &mut [u8],
 ) -> Result<JudgedPlan, Refusal>
-    requires { NetRuns staged.now r (length plan.old) }
+    requires { NetRuns staged.now.net count r (length plan.old) }
     ensures answer { (bs : List ℕ) → read bs ≡ accept (net_of staged.now.net)
         → PlansRounds bs r table.old table.new plan.old plan.new (rounds_told result) }
     ensures some_run { IfOk result (λ x. x.k ≤ max_rounds) }
 {
-    let found = rounds_stages(staged, r, table, plan)?;
-    Ok(judged_plan(staged, &plan[..staged.stages], found))
+    let found = rounds_stages(staged, count, r, table, plan)?;
+    Ok(judged_plan(staged, &plan[..count], found))
 }
 
 // Planning by r rounds past refusals 1 to 6, 14 and 10, for a net of `count` stages.
@@ -117,9 +119,8 @@ pub fn rounds_net(
     stages(net, &mut stage, &mut below);
     let staged = StagedNet {
         net: *net,
-        stages: count,
         stage: &stage,
         below: &below,
     };
-    rounds_told(rounds_by(&staged, r, table, plan))
+    rounds_told(rounds_by(&staged, count, r, table, plan))
 }

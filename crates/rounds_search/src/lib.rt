@@ -9,12 +9,12 @@ ghost use Rattle.oracle.specs.Value.{first_plan, MeetingPlan};
 ghost use Rattle.oracle.specs.Rounds.{plan_cost};
 ghost use Rattle.rounding.specs.Clauses.{Costs, plan_in, PricedPlan};
 ghost use Rattle.rounds.specs.Problem.{NumbersOf};
-ghost use Rattle.rounds.specs.Clauses.{PreparedOf, PlanAt};
+ghost use Rattle.rounds.specs.Clauses.{PlanAt};
 ghost use Rattle.rounds_search.specs.Clauses.{Cheaper, FoundAt, NextRoundOf, RunOf, Ran};
 ghost use Rattle.rounds_search.specs.Planned.{BestOf, RoundsExplored, BestPlanned};
 
 use rounding::rounded_cost;
-use rounds::{MAX_GRAIN, feasible, plan_at, prepare};
+use rounds::{MAX_GRAIN, Ready, feasible, plan_at, prepare};
 use rules::MAX_STAGES;
 use search::{Found, MAX_EXPONENT, Unplanned, copy_plan, leave};
 use slices::{Links, Tree, Windows};
@@ -37,54 +37,48 @@ fn keep_cheaper(tree: &Tree<'_>, known: &[u8], least: usize, best: &mut [u8]) ->
 // One round more: V(k) at the grain `half`, and into `known` the plan that 01 chooses there; or none if V(k) is no less than `columns`. `value` and `known` are
 // what the round at twice the grain found. V(k) is at least twice that value: where this is past the columns, or where that plan costs no more, nothing is left
 // to be found. Else that plan's rounded cost bounds the rows.
-// Kept: what stays for a call is in the structs; what is left differs from round to round.
+// Kept: what stays for a call is in `ready`; what is left differs from round to round.
 fn next_round(
     table: &mut [i64],
-    tree: &Tree<'_>,
-    links: &Links<'_>,
-    windows: &Windows<'_>,
+    ready: &Ready<'_>,
     half: u64,
     columns: usize,
     value: usize,
     known: &mut [u8],
 ) -> Option<usize>
-    requires next_in { NextRoundOf table.old tree.now half columns value known.old }
-    requires prepared { PreparedOf tree.now links.now windows.now }
-    ensures { (T : StageTree) (k : ℕ) → NumbersOf T tree.now
-        → half ≡ 2 ^ k → FoundAt T (suc k) tree.now.stages known.old value → PlanAt T k columns tree.now.stages known.new result }
+    requires { NextRoundOf table.old ready.now.tree half columns value known.old }
+    ensures { (T : StageTree) (k : ℕ) → NumbersOf T ready.now.tree
+        → half ≡ 2 ^ k → FoundAt T (suc k) ready.now.tree.stages known.old value → PlanAt T k columns ready.now.tree.stages known.new result }
 {
     let least = 2 * value;
     if columns <= least {
         return None;
     }
-    let bound = rounded_cost(tree.cost, known, tree.stages, half);
+    let bound = rounded_cost(ready.tree.cost, known, ready.tree.stages, half);
     if bound == least {
         return Some(least);
     }
-    plan_at(table, tree, links, windows, half, columns, bound, known)
+    plan_at(table, ready, half, columns, bound, known)
 }
 
 // The rounds from the largest k, whose plan is known, down to k = `last`, or as far as the columns reach: what was found at the last k run, and the cheapest
 // plan of all, into `best`.
-// Kept: what stays for a call is in the structs; what is left differs from call to call.
+// Kept: what stays for a call is in `ready`; what is left differs from call to call.
 fn run_rounds(
     table: &mut [i64],
-    tree: &Tree<'_>,
-    links: &Links<'_>,
-    windows: &Windows<'_>,
+    ready: &Ready<'_>,
     last: usize,
     known: &mut [u8],
     best: &mut [u8],
 ) -> Result<Found, Unplanned>
-    requires run_in { RunOf table.old tree.now last known.old best.old }
-    requires prepared { PreparedOf tree.now links.now windows.now }
-    ensures { (T : StageTree) → NumbersOf T tree.now
-        → first_plan T max_exponent ≡ some (plan_in tree.now.stages known.old)
-        → Ran T last (length table.old / (tree.now.stages + 2)) tree.now.stages best.new result }
+    requires { RunOf table.old ready.now.tree last known.old best.old }
+    ensures { (T : StageTree) → NumbersOf T ready.now.tree
+        → first_plan T max_exponent ≡ some (plan_in ready.now.tree.stages known.old)
+        → Ran T last (length table.old / (ready.now.tree.stages + 2)) ready.now.tree.stages best.new result }
 {
-    let columns = table.len() / (tree.stages + 2);
-    copy_plan(known, tree.stages, best);
-    let mut least = rounded_cost(tree.cost, known, tree.stages, 1);
+    let columns = table.len() / (ready.tree.stages + 2);
+    copy_plan(known, ready.tree.stages, best);
+    let mut least = rounded_cost(ready.tree.cost, known, ready.tree.stages, 1);
     let mut found = Found {
         k: MAX_EXPONENT,
         g: MAX_GRAIN,
@@ -92,16 +86,7 @@ fn run_rounds(
     };
     for k in (last..MAX_EXPONENT).rev() {
         let half = found.g / 2;
-        let next = next_round(
-            table,
-            tree,
-            links,
-            windows,
-            half,
-            columns,
-            found.value,
-            known,
-        );
+        let next = next_round(table, ready, half, columns, found.value, known);
         let Some(v) = next else {
             return Ok(found);
         };
@@ -110,7 +95,7 @@ fn run_rounds(
             g: half,
             value: v,
         };
-        least = keep_cheaper(tree, known, least, best);
+        least = keep_cheaper(&ready.tree, known, least, best);
     }
     Ok(found)
 }
@@ -135,22 +120,25 @@ fn search_rounds(
     // Kept: arrays of fixed size, as no heap is used; they are read as structs, `Links` and `Windows`.
     let mut late = [0i64; MAX_STAGES];
     prepare(tree, &mut first, &mut next, &mut early, &mut late);
-    let links = Links {
-        first: &first,
-        next: &next,
-    };
-    let windows = Windows {
-        early: &early,
-        late: &late,
+    let ready = Ready {
+        tree: *tree,
+        links: Links {
+            first: &first,
+            next: &next,
+        },
+        windows: Windows {
+            early: &early,
+            late: &late,
+        },
     };
     let mut known = [0u8; MAX_STAGES];
-    if !feasible(tree, &links, &windows, &mut known) {
+    if !feasible(&ready, &mut known) {
         return Err(Unplanned::Late);
     }
     if table.len() < tree.stages + 2 {
         return Err(Unplanned::Short);
     }
-    run_rounds(table, tree, &links, &windows, last, &mut known, best)
+    run_rounds(table, &ready, last, &mut known, best)
 }
 
 // The cheapest plan of the rounds down to k = `last`, into the first bytes of `plan`; and what was found at the last k run.

@@ -5,12 +5,11 @@ ghost use Rattle.std.specs.Prelude.{◌≡◌, ◌++◌, ◌+◌, ◌-◌, ◌*�
 ghost use Rattle.oracle.specs.Stages.{StageTree};
 ghost use Rattle.oracle.specs.Value.{MeetingPlan};
 ghost use Rattle.rounding.specs.Clauses.{plan_in};
-ghost use Rattle.rounds.specs.Clauses.{PreparedOf};
 ghost use Rattle.search.specs.Clauses.{ProblemOf, TestIn, DescendOf, Searched};
 ghost use Rattle.search.specs.Planned.{PlanTreeOf, SearchOf, Explored, Left, Planned, refusal_of};
 
 use rounding::rounded_cost;
-use rounds::{MAX_GRAIN, feasible, plan_at, prepare};
+use rounds::{MAX_GRAIN, Ready, feasible, plan_at, prepare};
 use rules::{MAX_STAGES, Refusal};
 use slices::{Links, Tree, Windows};
 
@@ -64,28 +63,25 @@ fn qualifies(share: Share, stages: usize, g: u64, v: usize) -> bool
 // plan known so far qualifies is passed over: V(k) is no more.
 fn descend(
     table: &mut [i64],
-    tree: &Tree<'_>,
-    links: &Links<'_>,
-    windows: &Windows<'_>,
+    ready: &Ready<'_>,
     share: Share,
     known: &mut [u8],
 ) -> Result<Found, Unplanned>
-    requires descend_in { DescendOf tree.now share known.old }
-    requires prepared { PreparedOf tree.now links.now windows.now }
-    ensures { (T : StageTree) → ProblemOf T tree.now share
-        → MeetingPlan T (plan_in tree.now.stages known.old)
-        → Searched T share.p share.q (length table.old / (tree.now.stages + 2)) tree.now.stages known.new result }
+    requires { DescendOf ready.now.tree share known.old }
+    ensures { (T : StageTree) → ProblemOf T ready.now.tree share
+        → MeetingPlan T (plan_in ready.now.tree.stages known.old)
+        → Searched T share.p share.q (length table.old / (ready.now.tree.stages + 2)) ready.now.tree.stages known.new result }
 {
-    let columns = table.len() / (tree.stages + 2);
+    let columns = table.len() / (ready.tree.stages + 2);
     let mut g: u64 = MAX_GRAIN;
     for k in (0..MAX_EXPONENT).rev() {
         g /= 2;
-        let bound = rounded_cost(tree.cost, known, tree.stages, g);
-        if qualifies(share, tree.stages, g, bound) {
-            let Some(v) = plan_at(table, tree, links, windows, g, columns, bound, known) else {
+        let bound = rounded_cost(ready.tree.cost, known, ready.tree.stages, g);
+        if qualifies(share, ready.tree.stages, g, bound) {
+            let Some(v) = plan_at(table, ready, g, columns, bound, known) else {
                 return Err(Unplanned::Short);
             };
-            if qualifies(share, tree.stages, g, v) {
+            if qualifies(share, ready.tree.stages, g, v) {
                 return Ok(Found { k, g, value: v });
             }
         }
@@ -94,7 +90,7 @@ fn descend(
     Err(Unplanned::Short)
 }
 
-// The plan in the first bytes of `known` becomes that in the first bytes of `plan`.
+// Copies the plan in the first bytes of `known` to the front of `plan`.
 pub fn copy_plan(known: &[u8], stages: usize, plan: &mut [u8])
     requires { (stages ≤ length known.now) × (stages ≤ length plan.old) }
     ensures { plan.new ≡ plan_in stages known.now ++ drop stages plan.old }
@@ -122,18 +118,21 @@ fn search_tree(
     // Kept: arrays of fixed size, as no heap is used; they are read as structs, `Links` and `Windows`.
     let mut late = [0i64; MAX_STAGES];
     prepare(tree, &mut first, &mut next, &mut early, &mut late);
-    let links = Links {
-        first: &first,
-        next: &next,
+    let ready = Ready {
+        tree: *tree,
+        links: Links {
+            first: &first,
+            next: &next,
+        },
+        windows: Windows {
+            early: &early,
+            late: &late,
+        },
     };
-    let windows = Windows {
-        early: &early,
-        late: &late,
-    };
-    if !feasible(tree, &links, &windows, known) {
+    if !feasible(&ready, known) {
         return Err(Unplanned::Late);
     }
-    descend(table, tree, &links, &windows, share, known)
+    descend(table, &ready, share, known)
 }
 
 // What is left behind (01, Planning): after 11 table and plan buffer as they were, after 12 the table all zero; if a plan was found the table is all zero, and

@@ -8,7 +8,6 @@ ghost use Rattle.rules.specs.Bytes.{max_layers, max_stages};
 ghost use Rattle.facts.specs.Ranges.{TimeInRange};
 ghost use Rattle.facts.specs.Fits.{half_range};
 ghost use Rattle.words.specs.Net.{net_of};
-ghost use Rattle.tree.specs.Staged.{Staged};
 ghost use Rattle.loads.specs.Tables.{NodeRow, RowMost};
 ghost use Rattle.delays.specs.Delayed.{LayerDelays};
 ghost use Rattle.costs.specs.Priced.{Priced};
@@ -19,7 +18,7 @@ ghost use Rattle.stage_numbers.specs.LimitRows.{lowered};
 ghost use Rattle.stage_numbers.specs.Noted.{NoteIn, Noted};
 
 use rules::Kind;
-use words::Net;
+use tree::StagedNet;
 
 // The delays to the nodes: entry j * layers + l is that to node j on layer l.
 #[derive(Clone, Copy)]
@@ -64,7 +63,7 @@ fn lower_limits(delays: &Delays<'_>, j: usize, required: i64, t: usize, limit: &
 }
 
 // What node j gives: a buffer the driver of the stage below it and the delay to that stage, a sink a limit for the stage above.
-// Kept: three arrays are lent to be written, each with a clause of its own.
+// Kept: three arrays are lent to be written; a struct of them was not tried.
 fn note_node(
     kind: Kind,
     delays: &Delays<'_>,
@@ -89,27 +88,34 @@ fn note_node(
 }
 
 // The numbers of all stages: after the pass `driver`, `wire` and `limit` hold, with the costs, the tree of stages of the net.
-// Kept: three arrays are lent to be written, each with a clause of its own.
+// Kept: three arrays are lent to be written; a struct of them was not tried.
 pub fn stage_numbers(
-    net: &Net<'_>,
-    stage: &[usize],
-    below: &[usize],
+    staged: &StagedNet<'_>,
     delay: &[u64],
     driver: &mut [usize],
     wire: &mut [u64],
     limit: &mut [i64],
 )
-    requires { Staged (net_of net.now) stage.now below.now × LayerDelays (net_of net.now) net.now.layers delay.now ×
+    requires { LayerDelays (net_of staged.now.net) staged.now.net.layers delay.now ×
         (length driver.old ≡ max_stages) × (length wire.old ≡ max_stages * max_layers) × (limit.old ≡ replicate (max_stages * max_layers) no_limit) }
-    ensures { (cost : List ℕ) → Priced (net_of net.now) cost
-        → Laid (tree_of (net_of net.now)) driver.new wire.new limit.new cost }
+    ensures { (cost : List ℕ) → Priced (net_of staged.now.net) cost
+        → Laid (tree_of (net_of staged.now.net)) driver.new wire.new limit.new cost }
 {
     let delays = Delays {
-        layers: net.layers,
+        layers: staged.net.layers,
         delay,
     };
-    for j in 1..=net.nodes {
-        let kind = net.node(j).kind;
-        note_node(kind, &delays, j, stage[j], below[j], driver, wire, limit);
+    for j in 1..=staged.net.nodes {
+        let kind = staged.net.node(j).kind;
+        note_node(
+            kind,
+            &delays,
+            j,
+            staged.stage[j],
+            staged.below[j],
+            driver,
+            wire,
+            limit,
+        );
     }
 }

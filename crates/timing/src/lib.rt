@@ -6,7 +6,6 @@ ghost use Rattle.rules.specs.Tree as tree;
 ghost use Rattle.rules.specs.Tree.{layer_count, are_layers};
 ghost use Rattle.rules.specs.Timing.{cost, slack};
 ghost use Rattle.words.specs.Net.{net_of};
-ghost use Rattle.tree.specs.Staged.{Staged};
 ghost use Rattle.tree.specs.Plans.{Fitting};
 ghost use Rattle.delays.specs.Delayed.{PlanDelays};
 
@@ -15,7 +14,7 @@ use delays::plan_delays;
 use loads::NODE_ROWS;
 use required::{NO_TERMINAL, Tables, link_terminals, stage_required};
 use rules::Judged;
-use tree::stages;
+use tree::{StagedNet, stages};
 use words::Net;
 
 // Whether each layer number of a plan is below the layer count (refusal 8).
@@ -26,36 +25,35 @@ pub fn are_layers(plan: &[u8], layers: usize) -> bool
 }
 
 // The slack of a plan, by the delays under it: the driver's required time minus its arrival time.
-fn slack_by(net: &Net<'_>, stage: &[usize], below: &[usize], delay: &[u64]) -> i64
-    requires { Staged (net_of net.now) stage.now below.now ×
-        ((plan : List ℕ) × Fitting (net_of net.now) plan × PlanDelays (net_of net.now) plan delay.now) }
-    ensures { (plan : List ℕ) → Fitting (net_of net.now) plan → PlanDelays (net_of net.now) plan delay.now
-        → result ≡ slack (net_of net.now) plan }
+fn slack_by(staged: &StagedNet<'_>, delay: &[u64]) -> i64
+    requires { (plan : List ℕ) × Fitting (net_of staged.now.net) plan × PlanDelays (net_of staged.now.net) plan delay.now }
+    ensures { (plan : List ℕ) → Fitting (net_of staged.now.net) plan → PlanDelays (net_of staged.now.net) plan delay.now
+        → result ≡ slack (net_of staged.now.net) plan }
 {
     let mut first = [NO_TERMINAL; rules::MAX_STAGES];
     // Kept: arrays of fixed size, as no heap is used; what required times need is read as one struct, `Tables`.
     let mut next = [0usize; NODE_ROWS];
-    link_terminals(net, stage, &mut first, &mut next);
+    link_terminals(staged, &mut first, &mut next);
     let tables = Tables {
-        below,
+        below: staged.below,
         first: &first,
         next: &next,
         delay,
     };
-    let required = stage_required(net, &tables, 0);
-    let arrives = net.arrival();
+    let required = stage_required(&staged.net, &tables, 0);
+    let arrives = staged.net.arrival();
     required - arrives
 }
 
-// The cost and slack of a plan of the net, whose edges belong to these stages.
-pub fn judged_by(net: &Net<'_>, stage: &[usize], below: &[usize], plan: &[u8]) -> Judged
-    requires { Staged (net_of net.now) stage.now below.now × Fitting (net_of net.now) plan.now }
-    ensures { result ≡ record { refusal = 0; cost = cost (net_of net.now) plan.now; slack = slack (net_of net.now) plan.now } }
+// The cost and slack of a plan of a net whose stages are known.
+pub fn judged_by(staged: &StagedNet<'_>, plan: &[u8]) -> Judged
+    requires { Fitting (net_of staged.now.net) plan.now }
+    ensures { result ≡ record { refusal = 0; cost = cost (net_of staged.now.net) plan.now; slack = slack (net_of staged.now.net) plan.now } }
 {
     let mut delay = [0u64; NODE_ROWS];
-    plan_delays(net, below, plan, &mut delay);
-    let cost = plan_cost(net, stage, plan);
-    let slack = slack_by(net, stage, below, &delay);
+    plan_delays(staged, plan, &mut delay);
+    let cost = plan_cost(staged, plan);
+    let slack = slack_by(staged, &delay);
     Judged {
         refusal: 0,
         cost,
@@ -72,11 +70,16 @@ pub fn judged(net: &Net<'_>, plan: &[u8]) -> Judged
     // Kept: arrays of fixed size, as no heap is used; what required times need is read as one struct, `Tables`.
     let mut below = [0usize; NODE_ROWS];
     stages(net, &mut stage, &mut below);
-    judged_by(net, &stage, &below, plan)
+    let staged = StagedNet {
+        net: *net,
+        stage: &stage,
+        below: &below,
+    };
+    judged_by(&staged, plan)
 }
 
 // A refusal of judging: the number and zeros.
-// Kept: it takes any number, as its clause says; a narrower type would ask more of callers.
+// Kept: the clause of this public function speaks of any number, and may not change.
 pub fn judging_refused(r: u8) -> Judged
     ensures { result ≡ record { refusal = r; cost = 0; slack = pos 0 } }
 {

@@ -4,6 +4,8 @@ use Rattle.std.specs.Prelude.{◌≡◌, Bool, ◌⊎◌, List, length, get_or, 
 use Rattle.std.proofs.Math.Path.{refl, ap}
 use Rattle.std.proofs.Common.{sym, ◌∙◌, inl, inr, arith, length-set, get_or-set_same, get_or-set_other}
 use Rattle.std.proofs.Math.Bool.{true, false}
+use Rattle.std.proofs.Math.Logic.{∥∥₁_elim}
+use Rattle.std.proofs.Props.{props}
 use Rattle.rules.specs.Bytes.{max_nodes}
 use Prim.Native.Nat.{ℕ, zero, suc, ◌+◌, ◌-◌, ◌≤◌, ◌<◌}
 use Rattle.laws.specs.Basic.{bit, from, keep}
@@ -56,6 +58,15 @@ pub record Staged (n : Net) (stage below : List ℕ) : Type 0 where
   pub below-is : (i : ℕ) → i ≤ length n.nodes → get_or below i 0 ≡ stage_below n i
   pub stage-long : length stage ≡ max_nodes + 1
   pub below-long : length below ≡ max_nodes + 1
+
+-- A ghost field has room for a fact with one proof only, so the one of `StagedNet` is `∥ Staged .. ∥₁`, that there is a proof; here it is back.
+pub staged_of : {n : Net} {stage below : List ℕ} → ∥ Staged n stage below ∥₁ → Staged n stage below
+staged_of t = record {
+  stage_is = λ j a b. ∥∥₁_elim t (Prim.hlevel props) (λ S. S.stage_is j a b);
+  below-is = λ i b. ∥∥₁_elim t (Prim.hlevel props) (λ S. S.below-is i b);
+  stage-long = ∥∥₁_elim t (Prim.hlevel props) (λ S. S.stage-long);
+  below-long = ∥∥₁_elim t (Prim.hlevel props) (λ S. S.below-long);
+}
 
 -- the pass before node j, count buffers passed
 pub record Passing (n : Net) (stage below : List ℕ) (j count : ℕ) : Type 0 where

@@ -8,8 +8,11 @@ ghost use Rattle.words.specs.Net.{net_of};
 ghost use Rattle.tree.specs.Gates.{gate_of};
 ghost use Rattle.tree.specs.Staged.{Staged};
 
+mod staged;
+
 use reader::buffer_bit;
 use rules::Kind;
+pub use staged::StagedNet;
 use words::{Net, node_in};
 
 // What drives the wire below a node: the gate of a root, or the wire above.

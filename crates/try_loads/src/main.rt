@@ -4,14 +4,12 @@
 
 ghost use Rattle.std.specs.Prelude.{◌≡◌, ◌+◌, ◌*◌, length};
 ghost use Rattle.rules.specs.Bytes.{max_layers, max_nodes, max_stages};
-ghost use Rattle.words.specs.Net.{net_of};
-ghost use Rattle.tree.specs.Staged.{Staged};
 
 use loads::{NODE_ROWS, loads};
 use reader::read;
 use std::io;
 use streams::read_full;
-use tree::stages;
+use tree::{StagedNet, stages};
 use words::{Net, WORDS};
 
 // Prints the line of stage t: its number of edges, and the loads at its root, one on each layer.
@@ -26,19 +24,17 @@ fn print_stage(rt: &impl Print, t: usize, edges: usize, load: &[u32]) -> io::Res
 // Prints the line of each stage. Their roots, in node order, are the driver and the nodes below which another stage begins than that of the edge above.
 fn print_stages(
     rt: &impl Print,
-    net: &Net<'_>,
-    stage: &[usize],
-    below: &[usize],
+    staged: &StagedNet<'_>,
     edges: &[usize],
     load: &[u32],
 ) -> io::Result<()>
-    requires { Staged (net_of net.now) stage.now below.now × (length edges.now ≡ max_stages) × (length load.now ≡ (max_nodes + 1) * max_layers) }
+    requires { (length edges.now ≡ max_stages) × (length load.now ≡ (max_nodes + 1) * max_layers) }
 {
-    for i in 0..=net.nodes {
-        let t = below[i];
-        if i == 0 || t != stage[i] {
-            let row = i * net.layers;
-            print_stage(rt, t, edges[t], &load[row..row + net.layers])?;
+    for i in 0..=staged.net.nodes {
+        let t = staged.below[i];
+        if i == 0 || t != staged.stage[i] {
+            let row = i * staged.net.layers;
+            print_stage(rt, t, edges[t], &load[row..row + staged.net.layers])?;
         }
     }
     Ok(())
@@ -49,10 +45,15 @@ fn print_walk(rt: &impl Print, net: &Net<'_>) -> io::Result<()> {
     let mut stage = [0usize; NODE_ROWS];
     let mut below = [0usize; NODE_ROWS];
     stages(net, &mut stage, &mut below);
+    let staged = StagedNet {
+        net: *net,
+        stage: &stage,
+        below: &below,
+    };
     let first = [0u8; rules::MAX_STAGES];
     let mut load = [0u32; NODE_ROWS * rules::MAX_LAYERS];
-    let edges = loads(net, &below, &first, net.layers, &mut load);
-    print_stages(rt, net, &stage, &below, &edges, &load)
+    let edges = loads(&staged, &first, net.layers, &mut load);
+    print_stages(rt, &staged, &edges, &load)
 }
 
 // Reads the net, and prints what the walk gives for it, or the refusal of a net that cannot be read.

@@ -1,5 +1,6 @@
 // The open calls of the layer planner for hosts in other languages (include/vorphiel.h), of which libvorphiel.a is built. Each contract is that of the call of
 // crates/vorphiel of the same name; the desk is here alone.
+// Kept: the C interface needs it: refusals are numbers here, and what else is answered is left where the host says, number by number.
 #![tactic(auto)]
 
 ghost use Rattle.std.specs.Prelude.{◌≡◌};

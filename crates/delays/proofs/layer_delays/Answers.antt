@@ -10,19 +10,17 @@ use Rattle.delays.proofs.layer_delays.Goals as goal
 
 pub loads-requires : goal.loads-requires
 loads-requires c =
-    let H = held c.args.net.now.held in (
-      c.requires.0,
+    let H = held c.args.staged.now.net.held in (
       layer-columns H.accepted H.layers-are,
       unloaded_zeros _ ((max_nodes + 1) * max_layers) (omega (arith, H.accepted.few-layers, H.layers-are)),
     )
 
 pub delays-requires : goal.delays-requires
 delays-requires c =
-    let H = held c.args.net.now.held in (
-      c.requires.0,
+    let H = held c.args.staged.now.net.held in (
       layer-columns H.accepted H.layers-are,
       c.loads.ensures.0,
-      omega (arith, H.accepted.few-layers, H.layers-are, c.requires.1),
+      omega (arith, H.accepted.few-layers, H.layers-are, c.requires),
     )
 
 pub returns : goal.returns

@@ -8,7 +8,7 @@ use Rattle.delays.specs.Delayed.{plan-delays}
 use Rattle.delays.proofs.plan_delays.Goals as goal
 
 pub loads-requires : goal.loads-requires
-loads-requires c = let s = c.requires in (s.0, plan-columns s.1, unloaded_zeros 1 (max_nodes + 1) (omega arith))
+loads-requires c = let s = c.requires in (plan-columns s.0, unloaded_zeros 1 (max_nodes + 1) (omega arith))
 
 pub returns : goal.returns
 returns c = plan-delays c.delays.ensures

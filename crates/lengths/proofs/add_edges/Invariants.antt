@@ -4,4 +4,4 @@ use Rattle.lengths.specs.Adding.{LengthsBefore}
 use Rattle.lengths.proofs.add_edges.Given as goal
 
 abbrev pub invariant-loop-j : goal.invariant-loop-j
-invariant-loop-j l = LengthsBefore (net_in l.net.words.now) l.plan l.initial.lengths l.lengths l.j
+invariant-loop-j l = LengthsBefore (net_in l.staged.net.words.now) l.plan l.initial.lengths l.lengths l.j

@@ -7,9 +7,9 @@ use Rattle.planning.proofs.plan_stages.Goals as goal
 pub plan_tree-requires : goal.plan_tree-requires
 plan_tree-requires c =
     let e = arrival-sent (sfits_of {w = w64} c.arrival.type_inv) c.arrival.ensures in
-    record { tree = _; problem = problem_in c.requires.0 c.numbers.ensures e; plan-long = c.requires.0.room-enough }
+    record { tree = _; problem = problem_in c.requires c.numbers.ensures e; plan-long = c.requires.room-enough }
 
 pub returns : goal.returns
 returns c =
     let e = arrival-sent (sfits_of {w = w64} c.arrival.type_inv) c.arrival.ensures in
-    c.plan_tree.ensures _ (problem_in c.requires.0 c.numbers.ensures e)
+    c.plan_tree.ensures _ (problem_in c.requires c.numbers.ensures e)

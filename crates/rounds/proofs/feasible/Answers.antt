@@ -12,9 +12,9 @@ pub read_plan-requires : goal.read_plan-requires
 read_plan-requires c =
     let (T, N) = c.requires.some_tree in
     let (v, V) = value_found _ c.if-is_none.ensures (c.value_at-least.ensures T max_exponent N refl) in
-    read_in N V c.requires.prepared.linked refl (omega (arith, N.stages-are, N.laid.delays.few-stages)) refl c.requires.room
+    read_in N V c.args.ready.now.prepared.linked refl (omega (arith, N.stages-are, N.laid.delays.few-stages)) refl c.requires.room
 
 pub returns : goal.returns
 returns c = λ T N.
     let (v, V) = value_found _ c.if-is_none.ensures (c.value_at-least.ensures T max_exponent N refl) in
-    feasible_some N V c.value_at-least.auto.table c.read_plan.ensures c.requires.prepared.linked
+    feasible_some N V c.value_at-least.auto.table c.read_plan.ensures c.args.ready.now.prepared.linked

@@ -5,7 +5,7 @@ use Rattle.rounds.proofs.value_at.Goals as goal
 
 pub returns-then-n-least : goal.returns-then-n-least
 returns-then-n-least c =
-    round_is None c.requires.round_in c.requires.prepared c.fill_rows.ensures (search rules) c.least_column-least.ensures (omega arith)
+    round_is None c.requires c.args.ready.now.prepared c.fill_rows.ensures (search rules) c.least_column-least.ensures (omega arith)
 
 pub returns : goal.returns
-returns c = round_is (Some _) c.requires.round_in c.requires.prepared c.fill_rows.ensures (search rules) c.least_column-least.ensures (omega arith, omega arith)
+returns c = round_is (Some _) c.requires c.args.ready.now.prepared c.fill_rows.ensures (search rules) c.least_column-least.ensures (omega arith, omega arith)

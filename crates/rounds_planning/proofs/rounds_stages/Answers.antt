@@ -9,7 +9,7 @@ use Rattle.rounds_planning.proofs.rounds_stages.Goals as goal
 
 pub best_of_rounds-requires : goal.best_of_rounds-requires
 best_of_rounds-requires c =
-    let G = c.requires.0 in
+    let G = c.requires in
     let e = arrival-sent (sfits_of {w = w64} c.arrival.type_inv) c.arrival.ensures in
     record { tree = _; numbers = numbers_in_lem G c.numbers.ensures e; last-most = omega (arith, G.some_round, G.most-rounds); long = G.room-enough }
 
@@ -17,4 +17,4 @@ pub returns : goal.returns
 unfolding last_run
 returns c =
     let e = arrival-sent (sfits_of {w = w64} c.arrival.type_inv) c.arrival.ensures in
-    c.best_of_rounds.ensures _ (numbers_in_lem c.requires.0 c.numbers.ensures e)
+    c.best_of_rounds.ensures _ (numbers_in_lem c.requires c.numbers.ensures e)

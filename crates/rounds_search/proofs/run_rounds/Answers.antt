@@ -8,21 +8,21 @@ use Rattle.rounds_search.proofs.Rounds.{priced-first, running_start, running_end
 use Rattle.rounds_search.proofs.run_rounds.Goals as goal
 
 pub rounded_cost-least-requires : goal.rounded_cost-least-requires
-rounded_cost-least-requires c = priced-first c.requires.run_in (omega arith)
+rounded_cost-least-requires c = priced-first c.requires (omega arith)
 
 pub loop-k-init : goal.loop-k-init
 loop-k-init c =
-    (refl, running_start (run_room (search rules) c.requires.run_in) _ refl c.copy_plan.ensures c.rounded_cost-least.ensures)
+    (refl, running_start (run_room (search rules) c.requires) _ refl c.copy_plan.ensures c.rounded_cost-least.ensures)
 
-pub next_round-next-requires-clause-next_in : goal.next_round-next-requires-clause-next_in
-next_round-next-requires-clause-next_in c = next_round_in c.loop-k.invariant.1 (omega arith) (run_room (search rules) c.requires.run_in)
+pub next_round-next-requires : goal.next_round-next-requires
+next_round-next-requires c = next_round_in c.loop-k.invariant.1 (omega arith) (run_room (search rules) c.requires)
 
 pub returns-in_default : goal.returns-in_default
 returns-in_default c = λ T N f. rw c.loop-k.invariant.0 (running_short c.loop-k.invariant.1 (omega arith) c.in_default.ensures T N f)
 
 pub keep_cheaper-least-requires : goal.keep_cheaper-least-requires
 keep_cheaper-least-requires c =
-    priced-next c.loop-k.invariant.1 (omega arith) c.in-Some.ensures (run_room (search rules) c.requires.run_in) (search rules)
+    priced-next c.loop-k.invariant.1 (omega arith) c.in-Some.ensures (run_room (search rules) c.requires) (search rules)
 
 pub loop-k-preserved : goal.loop-k-preserved
 loop-k-preserved c = (

@@ -6,6 +6,7 @@ use Rattle.rounds_search.proofs.run_rounds.Given as goal
 
 abbrev pub invariant-loop-k : goal.invariant-loop-k
 invariant-loop-k l =
+    let t = l.ready.tree in
     (l.found.k ≡ l.k) ×
-    Running l.initial.table l.tree.driver.now l.tree.delay.now l.tree.limit.now l.tree.cost.now l.tree.stages l.tree.layers l.tree.arrival l.last
+    Running l.initial.table t.driver.now t.delay.now t.limit.now t.cost.now t.stages t.layers t.arrival l.last
     l.initial.known l.initial.best l.columns l.table l.known l.best l.k l.found.g l.found.value l.least

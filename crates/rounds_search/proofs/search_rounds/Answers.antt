@@ -16,8 +16,8 @@ returns-then-table-tree c = λ T N.
     let F = c.feasible.ensures T N in
     ((_, feasible_meets F c.if-not-feasible.false), omega arith, refl)
 
-pub run_rounds-requires-clause-run_in : goal.run_rounds-requires-clause-run_in
-run_rounds-requires-clause-run_in c = run_in c.requires (omega arith) (search rules) c.feasible.ensures c.if-not-feasible.false
+pub run_rounds-requires : goal.run_rounds-requires
+run_rounds-requires c = run_in c.requires (omega arith) (search rules) c.feasible.ensures c.if-not-feasible.false
 
 pub returns : goal.returns
 returns c = λ T N.

@@ -9,17 +9,17 @@ pub loop-k-init : goal.loop-k-init
 loop-k-init c = descending_start refl
 
 pub qualifies-requires : goal.qualifies-requires
-qualifies-requires c = bound_test c.loop-k.invariant c.loop-k-test.true c.rounded_cost-bound.ensures c.requires.descend_in
+qualifies-requires c = bound_test c.loop-k.invariant c.loop-k-test.true c.rounded_cost-bound.ensures c.requires
 
-pub plan_at-requires-clause-plan_at_in : goal.plan_at-requires-clause-plan_at_in
-plan_at-requires-clause-plan_at_in c = plan-at_in c.loop-k.invariant c.loop-k-test.true c.rounded_cost-bound.ensures c.requires.descend_in
+pub plan_at-requires : goal.plan_at-requires
+plan_at-requires c = plan-at_in c.loop-k.invariant c.loop-k-test.true c.rounded_cost-bound.ensures c.requires
 
 pub returns-in_default : goal.returns-in_default
 returns-in_default c = turn-short c.loop-k.invariant c.loop-k-test.true c.rounded_cost-bound.ensures c.in_default.ensures
 
 pub qualifies-requires-then-qualifies : goal.qualifies-requires-then-qualifies
 qualifies-requires-then-qualifies c =
-    turn-test c.loop-k.invariant c.loop-k-test.true c.rounded_cost-bound.ensures c.in-Some.ensures c.requires.descend_in
+    turn-test c.loop-k.invariant c.loop-k-test.true c.rounded_cost-bound.ensures c.in-Some.ensures c.requires
 
 pub returns-then-qualifies-2 : goal.returns-then-qualifies-2
 returns-then-qualifies-2 c = λ T P M.

@@ -5,5 +5,6 @@ use Rattle.search.proofs.descend.Given as goal
 
 abbrev pub invariant-loop-k : goal.invariant-loop-k
 invariant-loop-k l =
-    Descending l.initial.table l.tree.driver.now l.tree.delay.now l.tree.limit.now l.tree.cost.now l.tree.stages l.tree.layers l.tree.arrival
+    let t = l.ready.tree in
+    Descending l.initial.table t.driver.now t.delay.now t.limit.now t.cost.now t.stages t.layers t.arrival
     l.share.p l.share.q l.initial.known l.columns l.table l.known l.k l.g

@@ -9,8 +9,8 @@ use Rattle.search.proofs.search_tree.Goals as goal
 pub returns-then-not-feasible : goal.returns-then-not-feasible
 returns-then-not-feasible c = λ T P. ((c.feasible.ensures T P.numbers).none c.if-not-feasible.true, refl)
 
-pub descend-requires-clause-descend_in : goal.descend-requires-clause-descend_in
-descend-requires-clause-descend_in c = descend_in c.requires (search rules) c.feasible.ensures c.if-not-feasible.false
+pub descend-requires : goal.descend-requires
+descend-requires c = descend_in c.requires (search rules) c.feasible.ensures c.if-not-feasible.false
 
 pub returns : goal.returns
 returns c = λ T P.

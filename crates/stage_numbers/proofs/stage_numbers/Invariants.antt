@@ -4,4 +4,4 @@ use Rattle.stage_numbers.specs.Numbered.{Numbering}
 use Rattle.stage_numbers.proofs.stage_numbers.Given as goal
 
 abbrev pub invariant-loop-j : goal.invariant-loop-j
-invariant-loop-j l = Numbering (net_in l.net.words.now) l.driver l.wire l.limit l.j
+invariant-loop-j l = Numbering (net_in l.staged.net.words.now) l.driver l.wire l.limit l.j

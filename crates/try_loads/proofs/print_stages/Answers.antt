@@ -5,7 +5,7 @@ use Rattle.rules.specs.Bytes.{max_layers, max_nodes, max_stages}
 use Rattle.words.specs.Words.{net_in}
 use Rattle.words.specs.Held.{Held}
 use Rattle.words.specs.Net.{held}
-use Rattle.tree.specs.Staged.{Staged, wire-below}
+use Rattle.tree.specs.Staged.{Staged, staged_of, wire-below}
 use Rattle.try_loads.proofs.print_stages.Goals as goal
 
 module _ {w : List ℕ} {nodes layers : ℕ} (H : Held w nodes layers) (i : ℕ) (h : i ≤ nodes) where
@@ -21,19 +21,19 @@ module _ {w : List ℕ} {nodes layers : ℕ} (H : Held w nodes layers) (i : ℕ)
       omega (arith, S.below-is i c, wire-below H.accepted i c, H.accepted.few-stages)
 
 pub overflow_mul-row : goal.overflow_mul-row
-overflow_mul-row g c = omega (arith, row-inside (held c.args.net.now.held) c.loop-i.i (omega arith))
+overflow_mul-row g c = omega (arith, row-inside (held c.args.staged.now.net.held) c.loop-i.i (omega arith))
 
 pub offset_bounds-edges-t : goal.offset_bounds-edges-t
-offset_bounds-edges-t g c = omega (arith, one-of-stages (held c.args.net.now.held) c.loop-i.i (omega arith) c.requires.0)
+offset_bounds-edges-t g c = omega (arith, one-of-stages (held c.args.staged.now.net.held) c.loop-i.i (omega arith) (staged_of c.args.staged.now.staged))
 
 pub bounds-edges-t : goal.bounds-edges-t
-bounds-edges-t g c = omega (arith, one-of-stages (held c.args.net.now.held) c.loop-i.i (omega arith) c.requires.0)
+bounds-edges-t g c = omega (arith, one-of-stages (held c.args.staged.now.net.held) c.loop-i.i (omega arith) (staged_of c.args.staged.now.staged))
 
 pub overflow_add-row : goal.overflow_add-row
-overflow_add-row g c = omega (arith, row-inside (held c.args.net.now.held) c.loop-i.i (omega arith))
+overflow_add-row g c = omega (arith, row-inside (held c.args.staged.now.net.held) c.loop-i.i (omega arith))
 
 pub offset_bounds-load-row : goal.offset_bounds-load-row
-offset_bounds-load-row g c = omega (arith, row-inside (held c.args.net.now.held) c.loop-i.i (omega arith))
+offset_bounds-load-row g c = omega (arith, row-inside (held c.args.staged.now.net.held) c.loop-i.i (omega arith))
 
 pub slice_bounds-print_stage-end : goal.slice_bounds-print_stage-end
-slice_bounds-print_stage-end g c = omega (arith, row-inside (held c.args.net.now.held) c.loop-i.i (omega arith))
+slice_bounds-print_stage-end g c = omega (arith, row-inside (held c.args.staged.now.net.held) c.loop-i.i (omega arith))

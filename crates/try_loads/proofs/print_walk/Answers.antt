@@ -9,7 +9,6 @@ use Rattle.try_loads.proofs.print_walk.Goals as goal
 pub loads-edges-requires : goal.loads-edges-requires
 loads-edges-requires g c =
     let H = held c.args.net.now.held in (
-      (_, c.stages.ensures),
       layer-columns H.accepted H.layers-are,
       unloaded_zeros _ ((max_nodes + 1) * max_layers) (omega (arith, H.accepted.few-layers, H.layers-are)),
     )
