@@ -1,6 +1,6 @@
 -- What a net of the block adds, by what reading and planning answered for it.
 use mathlib.Core.Path.{◌≡◌, ap, sym, ◌∙◌, subst}
-use mathlib.Core.Bool.{Bool}
+use mathlib.Core.Bool.{Bool, true}
 use mathlib.Core.List.{List}
 use Prim.Native.Nat.{ℕ, ◌≤◌, ◌<◌}
 use native.Mathlib.Omega.{arith}
@@ -22,11 +22,14 @@ use Rattle.demands.specs.Demand2.{chosen_is}
 use Rattle.demands.specs.Call.{planned-numbered, unread-refused}
 use Rattle.demands.specs.Program.{program_refused, ProgramChoice, program_accepted}
 use Rattle.reader.specs.Net.{counts_of, counts, NetRead}
-use Rattle.std.specs.Prelude.{Err}
+use Rattle.std.specs.Prelude.{Ok, Err}
 use Rattle.rules.specs.declared.Refusal.{Refusal}
 use Rattle.rules.specs.Refusals.{number_of}
-use Rattle.reader.specs.Kept.{Kept}
-use Rattle.words.specs.Words.{net_in}
+use Rattle.reader.specs.declared.NetCounts.{NetCounts}
+use Rattle.reader.specs.Kept.{Kept, held-read}
+use Rattle.words.specs.Words.{word_count, net_in}
+use Rattle.words.specs.Net.{held}
+use Rattle.words.specs.declared.net.Net as words
 use Rattle.tree.specs.Plans.{Fitting, fitting}
 use Rattle.planning.specs.Calls.{Admitted, PlansNet}
 
@@ -41,6 +44,13 @@ unfolding counts
 unread {bs} {why = why} R =
     let e = turned_refused (read bs) counts_of R.answer in
     record { number_is = unread-refused bs 1 4 program_table program_room e; number-low = omega (arith, (read-numbered bs).low (number_of why) e) }
+
+-- what reading leaves of one that is read, as the struct made of its array has it
+pub kept-net : {bs w : List ℕ} {n : NetCounts} (net : words.Net) → NetRead bs true (Ok n) w → length w ≡ word_count → net.words.now ≡ w
+    → Kept bs net.words.now net.nodes n.stages net.layers
+kept-net net R long e =
+    let K = held-read R long in
+    record { holds = rw e K.holds; held = held net.held; stages-are = rw e K.stages-are }
 
 -- one that is read may be planned as the program plans
 pub admitted-net : {bs w : List ℕ} {nodes s layers : ℕ} → Kept bs w nodes s layers → Admitted w nodes layers s 1 4 program_room

@@ -109,11 +109,7 @@ fn add_net(
         Ok(counts) => counts,
         Err(why) => return add_refused(sums, u8::from(why)),
     };
-    let net = Net {
-        words,
-        nodes: counts.nodes,
-        layers: counts.layers,
-    };
+    let net = Net::of(words);
     let answer = plan_net(
         &net,
         counts.stages,

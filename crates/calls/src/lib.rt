@@ -54,11 +54,7 @@ pub fn planned(net: &[u8], p: u64, q: u64, table: &mut [i64], buffer: &mut [u8])
     let mut words = [0u32; WORDS];
     match admitted(net, p, q, buffer.len(), &mut words) {
         Ok(n) => {
-            let net = Net {
-                words: &words,
-                nodes: n.nodes,
-                layers: n.layers,
-            };
+            let net = Net::of(&words);
             plan_net(&net, n.stages, p, q, table, buffer)
         }
         Err(why) => refused(u8::from(why)),
@@ -97,11 +93,7 @@ pub fn planned_rounds(net: &[u8], r: u64, table: &mut [i64], buffer: &mut [u8]) 
     let mut words = [0u32; WORDS];
     match admitted_by_rounds(net, r, buffer.len(), &mut words) {
         Ok(n) => {
-            let net = Net {
-                words: &words,
-                nodes: n.nodes,
-                layers: n.layers,
-            };
+            let net = Net::of(&words);
             rounds_net(&net, n.stages, r, table, buffer)
         }
         Err(why) => rounds_refused(u8::from(why)),

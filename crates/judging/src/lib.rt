@@ -55,11 +55,7 @@ pub fn judge(net: &[u8], plan: &[u8]) -> Judged
     let mut words = [0u32; WORDS];
     match read_with_plan(net, plan, &mut words) {
         Ok(counts) => {
-            let net = Net {
-                words: &words,
-                nodes: counts.nodes,
-                layers: counts.layers,
-            };
+            let net = Net::of(&words);
             judged(&net, plan)
         }
         Err(why) => judging_refused(u8::from(why)),

@@ -61,11 +61,7 @@ fn print_net(rt: &impl Print, net: &[u8]) -> io::Result<()> {
     let mut words = [0u32; WORDS];
     match read(net, true, &mut words) {
         Ok(n) => {
-            let net = Net {
-                words: &words,
-                nodes: n.nodes,
-                layers: n.layers,
-            };
+            let net = Net::of(&words);
             print_walk(rt, &net)
         }
         Err(why) => println!(rt; "refused {}", u8::from(why)),

@@ -223,7 +223,8 @@ pub fn put_count(words: &mut [u32], count: usize)
 }
 
 // The numbers of a net by its array alone.
-// Kept: public functions that docs/WHY.md names, with what they ask and promise; `Net` has them as methods.
+// Kept: public functions for who has the array alone, with what they ask and promise; `Net` has its counts from two of them (`Net::of`), and the others as
+// methods.
 
 // Node j of the net.
 pub fn node_at(words: &[u32], j: usize) -> Node
@@ -231,6 +232,14 @@ pub fn node_at(words: &[u32], j: usize) -> Node
     ensures { result ≡ record_of (at (net_in words.now) j) }
 {
     node_in(words, j)
+}
+
+// The number of nodes after the driver.
+pub fn node_count(words: &[u32]) -> usize
+    requires { (nodes : ℕ) × (layers : ℕ) × Held words.now nodes layers }
+    ensures { result ≡ length (net_in words.now).nodes }
+{
+    words[COUNT_AT] as usize
 }
 
 // The number of layers.

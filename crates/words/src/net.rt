@@ -1,12 +1,16 @@
 // A net that was read, as the functions above the reader take it: the array that holds it and its counts, which always belong together (`held`,
-// specs/Net.antt), so that no function asks for it again.
+// specs/Net.antt), so that a function that takes one need not ask for it. Those of planning that speak of all that is known past the refusals (`Admitted` in
+// planning, `RoundsAdmitted` in rounds_planning) ask for it with the rest, as their callers have it.
 
-ghost use Rattle.std.specs.Prelude.{◌≡◌, ◌≤◌, ◌<◌};
-ghost use Rattle.rules.specs.Tree.{at};
+ghost use Rattle.std.specs.Prelude.{◌≡◌, ℕ, ◌≤◌, ◌<◌, length};
+ghost use Rattle.rules.specs.Tree.{layer_count, at};
 ghost use Rattle.rules.specs.Timing.{layer, edge_cost};
+ghost use Rattle.words.specs.Words.{net_in};
 ghost use Rattle.words.specs.Held.{Held, record_of};
 
-use crate::{Node, arrival, edge_cost, node_at, unit_cap, unit_res, via_res};
+use crate::{
+    Node, arrival, edge_cost, layer_count, node_at, node_count, unit_cap, unit_res, via_res,
+};
 
 // The net in an array, with its nodes after the driver and its layers.
 #[derive(Clone, Copy)]
@@ -17,8 +21,20 @@ pub struct Net<'a> {
     pub ghost held: { ∥ Held words.now nodes layers ∥₁ },
 }
 
-impl Net<'_> {
+impl<'a> Net<'a> {
     ghost use Rattle.words.specs.Net.{net_of};
+
+    // The net in an array that holds one. Its counts stand in the array too, so who has the array alone can make it.
+    pub fn of(words: &'a [u32]) -> Net<'a>
+        requires { (nodes : ℕ) × (layers : ℕ) × Held words.now nodes layers }
+        ensures { (result.words.now ≡ words.now) × (result.nodes ≡ length (net_in words.now).nodes) × (result.layers ≡ layer_count (net_in words.now)) }
+    {
+        Net {
+            words,
+            nodes: node_count(words),
+            layers: layer_count(words),
+        }
+    }
 
     // Node j.
     pub fn node(&self, j: usize) -> Node
@@ -30,6 +46,7 @@ impl Net<'_> {
 
     // The unit resistance of layer l.
     // Kept: three methods, as callers ask for one number of a layer at a time; a struct of all three would look up the others for nothing.
+    #[tactic(auto, using(crate::specs::Net::held))]
     pub fn unit_res(&self, l: usize) -> u64
         requires { l < self.now.layers }
         ensures { result ≡ (layer (net_of self.now) l).unit_res }
@@ -39,6 +56,7 @@ impl Net<'_> {
 
     // The unit capacitance of layer l.
     // Kept: as `unit_res`.
+    #[tactic(auto, using(crate::specs::Net::held))]
     pub fn unit_cap(&self, l: usize) -> u64
         requires { l < self.now.layers }
         ensures { result ≡ (layer (net_of self.now) l).unit_cap }
@@ -48,6 +66,7 @@ impl Net<'_> {
 
     // The via resistance of layer l.
     // Kept: as `unit_res`.
+    #[tactic(auto, using(crate::specs::Net::held))]
     pub fn via_res(&self, l: usize) -> u64
         requires { l < self.now.layers }
         ensures { result ≡ (layer (net_of self.now) l).via_res }

@@ -2,5 +2,5 @@
 use Rattle.reader.specs.Kept.{held-read}
 use Rattle.try_loads.proofs.print_net.Goals as goal
 
-pub invariant_of-net : goal.invariant_of-net
-invariant_of-net g c = record { held = ∣ (held-read c.in-Ok.ensures c.read.auto.words).held ∣₁ }
+pub of-net-requires : goal.of-net-requires
+of-net-requires g c = (_, _, (held-read c.in-Ok.ensures c.read.auto.words).held)
