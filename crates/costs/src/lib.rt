@@ -10,7 +10,7 @@ ghost use Rattle.slices.specs.Rows.{RowSet};
 ghost use Rattle.costs.specs.Priced.{Priced};
 ghost use Rattle.costs.specs.Adding.{Room, cost_with};
 
-use tree::StagedNet;
+use tree::EdgeStages;
 use words::Net;
 
 // Adds the costs of the edge to node j to those of stage t, on each layer.
@@ -24,24 +24,24 @@ fn add_costs(net: &Net<'_>, j: usize, t: usize, costs: &mut [u64])
 }
 
 // The cost of each stage on each layer: entry t * MAX_LAYERS + l becomes that of stage t on layer l.
-pub fn stage_costs(staged: &StagedNet<'_>, costs: &mut [u64])
+pub fn stage_costs(edges: &EdgeStages<'_>, costs: &mut [u64])
     requires { costs.old ≡ replicate (max_stages * max_layers) 0 }
-    ensures { Priced (net_of staged.now.net) costs.new }
+    ensures { Priced (net_of edges.now.net) costs.new }
 {
-    for j in 1..=staged.net.nodes {
-        add_costs(&staged.net, j, staged.stage[j], costs);
+    for j in 1..=edges.net.nodes {
+        add_costs(&edges.net, j, edges.stage[j], costs);
     }
 }
 
 // The cost of a plan: that of each edge on the layer of its stage, summed.
-pub fn plan_cost(staged: &StagedNet<'_>, plan: &[u8]) -> u64
-    requires { Fitting (net_of staged.now.net) plan.now }
-    ensures { result ≡ cost (net_of staged.now.net) plan.now }
+pub fn plan_cost(edges: &EdgeStages<'_>, plan: &[u8]) -> u64
+    requires { Fitting (net_of edges.now.net) plan.now }
+    ensures { result ≡ cost (net_of edges.now.net) plan.now }
 {
     let mut total: u64 = 0;
-    for j in 1..=staged.net.nodes {
-        let l = usize::from(plan[staged.stage[j]]);
-        total += staged.net.edge_cost(j, l);
+    for j in 1..=edges.net.nodes {
+        let l = usize::from(plan[edges.stage[j]]);
+        total += edges.net.edge_cost(j, l);
     }
     total
 }

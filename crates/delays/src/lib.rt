@@ -20,7 +20,7 @@ ghost use Rattle.delays.specs.Delayed.{Delayed, PlanDelays, LayerDelays, GateIn,
 
 use loads::{NODE_ROWS, loads, lower_load};
 use rules::Kind;
-use tree::{Gate, StagedNet, gate_at};
+use tree::{Gate, WireStages, gate_at};
 use words::{Net, Node};
 
 // Gate delay: 2 × gate resistance × load at the root, plus intrinsic delay, and 2 × via resistance × load for the via there.
@@ -114,47 +114,47 @@ fn add_vias(net: &Net<'_>, columns: usize, layer: usize, pin: u64, j: usize, del
 }
 
 // The delay from the gate input of its stage to each node in each column, from the first node to the last.
-fn delays(staged: &StagedNet<'_>, first: &[u8], columns: usize, load: &[u32], delay: &mut [u64])
-    requires { Columns (net_of staged.now.net) first.now columns × Loaded (net_of staged.now.net) first.now columns load.now ×
+fn delays(wires: &WireStages<'_>, first: &[u8], columns: usize, load: &[u32], delay: &mut [u64])
+    requires { Columns (net_of wires.now.net) first.now columns × Loaded (net_of wires.now.net) first.now columns load.now ×
         ((max_nodes + 1) * columns ≤ length delay.old) }
-    ensures { Delayed (net_of staged.now.net) first.now columns delay.new }
+    ensures { Delayed (net_of wires.now.net) first.now columns delay.new }
 {
-    let vias = has_vias(&staged.net);
-    for j in 1..=staged.net.nodes {
-        let node = staged.net.node(j);
-        let gate = gate_at(&staged.net, node.parent);
-        let layer = usize::from(first[staged.below[node.parent]]);
+    let vias = has_vias(&wires.net);
+    for j in 1..=wires.net.nodes {
+        let node = wires.net.node(j);
+        let gate = gate_at(&wires.net, node.parent);
+        let layer = usize::from(first[wires.below[node.parent]]);
         let edge = Edge {
             node,
             j,
             gate,
             layer,
         };
-        set_delays(&staged.net, columns, edge, load, delay);
+        set_delays(&wires.net, columns, edge, load, delay);
         let pin = paid_cap(node.kind, vias);
         if 0 < pin {
-            add_vias(&staged.net, columns, layer, pin, j, delay);
+            add_vias(&wires.net, columns, layer, pin, j, delay);
         }
     }
 }
 
 // The delay to each node under a plan: entry j becomes that of node j.
-pub fn plan_delays(staged: &StagedNet<'_>, plan: &[u8], delay: &mut [u64])
-    requires { Fitting (net_of staged.now.net) plan.now × (length delay.old ≡ max_nodes + 1) }
-    ensures { PlanDelays (net_of staged.now.net) plan.now delay.new }
+pub fn plan_delays(wires: &WireStages<'_>, plan: &[u8], delay: &mut [u64])
+    requires { Fitting (net_of wires.now.net) plan.now × (length delay.old ≡ max_nodes + 1) }
+    ensures { PlanDelays (net_of wires.now.net) plan.now delay.new }
 {
     let mut load = [0u32; NODE_ROWS];
-    loads(staged, plan, 1, &mut load);
-    delays(staged, plan, 1, &load, delay);
+    loads(wires, plan, 1, &mut load);
+    delays(wires, plan, 1, &load, delay);
 }
 
 // The delay to each node on each layer: entry j * layers + l becomes that of node j on layer l.
-pub fn layer_delays(staged: &StagedNet<'_>, delay: &mut [u64])
+pub fn layer_delays(wires: &WireStages<'_>, delay: &mut [u64])
     requires { length delay.old ≡ (max_nodes + 1) * max_layers }
-    ensures { LayerDelays (net_of staged.now.net) staged.now.net.layers delay.new }
+    ensures { LayerDelays (net_of wires.now.net) wires.now.net.layers delay.new }
 {
     let first = [0u8; rules::MAX_STAGES];
     let mut load = [0u32; NODE_ROWS * rules::MAX_LAYERS];
-    loads(staged, &first, staged.net.layers, &mut load);
-    delays(staged, &first, staged.net.layers, &load, delay);
+    loads(wires, &first, wires.net.layers, &mut load);
+    delays(wires, &first, wires.net.layers, &load, delay);
 }

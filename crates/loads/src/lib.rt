@@ -15,7 +15,7 @@ ghost use Rattle.loads.specs.Edges.{EdgeIn, lower_of, added_on};
 ghost use Rattle.loads.specs.Loaded.{Loaded, Unloaded};
 
 use rules::Kind;
-use tree::StagedNet;
+use tree::WireStages;
 use words::{Net, Node};
 
 // The rows of a table by node: the driver's and one for each node.
@@ -50,22 +50,22 @@ fn add_loads(net: &Net<'_>, columns: usize, node: Node, layer: usize, j: usize, 
 // The load at each node in each column, and the number of edges of each stage, by one walk from the last node to the first: each edge adds to the load at its
 // upper end and is counted to the stage of the wire below that end. No list of a stage's edges is made.
 pub fn loads(
-    staged: &StagedNet<'_>,
+    wires: &WireStages<'_>,
     first: &[u8],
     columns: usize,
     load: &mut [u32],
 ) -> [usize; rules::MAX_STAGES]
-    requires { Columns (net_of staged.now.net) first.now columns × Unloaded columns load.old }
-    ensures { Loaded (net_of staged.now.net) first.now columns load.new ×
-        ((t : ℕ) → get_or result t 0 ≡ length (edges_of (net_of staged.now.net) t)) ×
-        (sum (map (λ t. get_or result t 0) (from 0 (stages (net_of staged.now.net)))) ≡ staged.now.net.nodes) }
+    requires { Columns (net_of wires.now.net) first.now columns × Unloaded columns load.old }
+    ensures { Loaded (net_of wires.now.net) first.now columns load.new ×
+        ((t : ℕ) → get_or result t 0 ≡ length (edges_of (net_of wires.now.net) t)) ×
+        (sum (map (λ t. get_or result t 0) (from 0 (stages (net_of wires.now.net)))) ≡ wires.now.net.nodes) }
 {
     let mut edges = [0usize; rules::MAX_STAGES];
-    for j in (1..=staged.net.nodes).rev() {
-        let node = staged.net.node(j);
-        let stage = staged.below[node.parent];
+    for j in (1..=wires.net.nodes).rev() {
+        let node = wires.net.node(j);
+        let stage = wires.below[node.parent];
         let layer = usize::from(first[stage]);
-        add_loads(&staged.net, columns, node, layer, j, load);
+        add_loads(&wires.net, columns, node, layer, j, load);
         edges[stage] += 1;
     }
     edges

@@ -24,7 +24,7 @@ use search::{Found, Share, Unplanned, plan_tree};
 use slices::{STAGE_ENTRIES, Tree};
 use stage_numbers::stage_numbers;
 use timing::judged_by;
-use tree::{StagedNet, stages};
+use tree::{EdgeStages, StagedNet, WireStages, stages};
 use words::Net;
 
 // What stands for no limit at all: no time that is compared with it is later.
@@ -44,9 +44,17 @@ pub fn numbers(
     ensures { Laid (tree_of (net_of staged.now.net)) driver.new wire.new limit.new costs.new }
 {
     let mut delay = [0u64; NODE_ROWS * rules::MAX_LAYERS];
-    layer_delays(staged, &mut delay);
+    let wires = WireStages {
+        net: staged.net,
+        below: staged.below,
+    };
+    layer_delays(&wires, &mut delay);
     stage_numbers(staged, &delay, driver, wire, limit);
-    stage_costs(staged, costs);
+    let edges = EdgeStages {
+        net: staged.net,
+        stage: staged.stage,
+    };
+    stage_costs(&edges, costs);
 }
 
 // What the search over the tree of stages of a net finds, which has `count` of them.

@@ -13,7 +13,7 @@ ghost use Rattle.required.specs.Links.{no_terminal, TerminalsLinked};
 ghost use Rattle.required.specs.Timed.{TimedBy};
 
 use rules::Kind;
-use tree::StagedNet;
+use tree::EdgeStages;
 use words::Net;
 
 // What a link has where no further terminal follows: no node has this number.
@@ -47,13 +47,13 @@ fn is_terminal(kind: Kind) -> bool
 
 // Links the terminals of each stage: `first` gets for each stage the first of its terminals, `next` for each terminal the next of the same stage. They are put
 // in front of those that the stage has, from the last node on, so that the links go up in number.
-pub fn link_terminals(staged: &StagedNet<'_>, first: &mut [usize], next: &mut [usize])
+pub fn link_terminals(edges: &EdgeStages<'_>, first: &mut [usize], next: &mut [usize])
     requires { (first.old ≡ replicate max_stages no_terminal) × (length next.old ≡ max_nodes + 1) }
-    ensures { TerminalsLinked (net_of staged.now.net) first.new next.new }
+    ensures { TerminalsLinked (net_of edges.now.net) first.new next.new }
 {
-    for j in (1..=staged.net.nodes).rev() {
-        if is_terminal(staged.net.node(j).kind) {
-            let t = staged.stage[j];
+    for j in (1..=edges.net.nodes).rev() {
+        if is_terminal(edges.net.node(j).kind) {
+            let t = edges.stage[j];
             next[j] = first[t];
             first[t] = j;
         }

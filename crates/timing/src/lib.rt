@@ -14,7 +14,7 @@ use delays::plan_delays;
 use loads::NODE_ROWS;
 use required::{NO_TERMINAL, Tables, link_terminals, stage_required};
 use rules::Judged;
-use tree::{StagedNet, stages};
+use tree::{EdgeStages, StagedNet, WireStages, stages};
 use words::Net;
 
 // Whether each layer number of a plan is below the layer count (refusal 8).
@@ -33,7 +33,11 @@ fn slack_by(staged: &StagedNet<'_>, delay: &[u64]) -> i64
     let mut first = [NO_TERMINAL; rules::MAX_STAGES];
     // Kept: arrays of fixed size, as no heap is used; what required times need is read as one struct, `Tables`.
     let mut next = [0usize; NODE_ROWS];
-    link_terminals(staged, &mut first, &mut next);
+    let edges = EdgeStages {
+        net: staged.net,
+        stage: staged.stage,
+    };
+    link_terminals(&edges, &mut first, &mut next);
     let tables = Tables {
         below: staged.below,
         first: &first,
@@ -51,8 +55,16 @@ pub fn judged_by(staged: &StagedNet<'_>, plan: &[u8]) -> Judged
     ensures { result ≡ record { refusal = 0; cost = cost (net_of staged.now.net) plan.now; slack = slack (net_of staged.now.net) plan.now } }
 {
     let mut delay = [0u64; NODE_ROWS];
-    plan_delays(staged, plan, &mut delay);
-    let cost = plan_cost(staged, plan);
+    let wires = WireStages {
+        net: staged.net,
+        below: staged.below,
+    };
+    plan_delays(&wires, plan, &mut delay);
+    let edges = EdgeStages {
+        net: staged.net,
+        stage: staged.stage,
+    };
+    let cost = plan_cost(&edges, plan);
     let slack = slack_by(staged, &delay);
     Judged {
         refusal: 0,

@@ -1,8 +1,9 @@
 -- The stage of each edge, by one pass in node order: an edge belongs to the stage that the wire below its upper end belongs to; below a buffer begins the
 -- stage that it drives, below any other node goes on the stage of the edge above it (01, The tree).
-use Rattle.std.specs.Prelude.{◌≡◌, Bool, ◌⊎◌, List, length, get_or, set, if◌then◌else◌}
+use Rattle.std.specs.Prelude.{◌≡◌, Bool, ◌⊎◌, List, length, get_or, set, map, if◌then◌else◌}
 use Rattle.std.proofs.Math.Path.{refl, ap}
 use Rattle.std.proofs.Common.{sym, ◌∙◌, inl, inr, arith, length-set, get_or-set_same, get_or-set_other}
+use Rattle.std.proofs.lemmas.List.{length-map}
 use Rattle.std.proofs.Math.Bool.{true, false}
 use Rattle.std.proofs.Math.Logic.{∥∥₁_elim}
 use Rattle.std.proofs.Props.{props}
@@ -10,9 +11,12 @@ use Rattle.rules.specs.Bytes.{max_nodes}
 use Prim.Native.Nat.{ℕ, zero, suc, ◌+◌, ◌-◌, ◌≤◌, ◌<◌}
 use Rattle.laws.specs.Basic.{bit, from, keep}
 use Rattle.laws.specs.Booleans.{same_or}
-use Rattle.laws.specs.Lists.{keep-more, from_more}
+use Rattle.laws.specs.Lists.{keep-more, from_more, map_at, length_from}
 use Rattle.rules.specs.Tree.{Net, at, is_buffer, stages, drives, root_from, stage_of}
 use Rattle.facts.specs.Accepted.{Accepted}
+use Rattle.words.specs.Words.{net_in}
+use Rattle.words.specs.Held.{Held, held-accepted}
+use Rattle.words.specs.Net.{held}
 use Rattle.facts.specs.Stages.{root-is-buffer, climb_root, climb_up, climb_same, stages-some, drives-below, stage-below}
 
 -- the stage that the wire below node i belongs to
@@ -67,6 +71,51 @@ staged_of t = record {
   stage-long = ∥∥₁_elim t (Prim.hlevel props) (λ S. S.stage-long);
   below-long = ∥∥₁_elim t (Prim.hlevel props) (λ S. S.below-long);
 }
+
+-- the two tables as the rules have them
+pub stage_table : Net → List ℕ
+stage_table n = map (stage_of n) (from 0 (max_nodes + 1))
+
+pub below_table : Net → List ℕ
+below_table n = map (stage_below n) (from 0 (max_nodes + 1))
+
+-- An entry of a table with one for each node.
+table_at : (f : ℕ → ℕ) (i : ℕ) → i < max_nodes + 1 → get_or (map f (from 0 (max_nodes + 1))) i 0 ≡ f i
+table_at f i h = map_at f 0 0 (max_nodes + 1) i h ∙ ap f (omega arith)
+
+table-long : (f : ℕ → ℕ) → length (map f (from 0 (max_nodes + 1))) ≡ max_nodes + 1
+table-long f = simp (length-map, length_from)
+
+-- Each table is one for itself: who has one, with whatever other, has it with the other as the rules have it. So it is for a net that is held, of which
+-- `EdgeStages` and `WireStages` have one table each.
+module _ {w : List ℕ} {nodes layers : ℕ} (net : ∥ Held w nodes layers ∥₁) where
+  A : Accepted (net_in w)
+  A = held-accepted (held net)
+
+  pub edges_staged : {stage : List ℕ} → ∥ ((below : List ℕ) × Staged (net_in w) stage below) ∥₁ → Staged (net_in w) stage (below_table (net_in w))
+  unfolding below_table
+  edges_staged t = record {
+    stage_is = λ j a b. ∥∥₁_elim t (Prim.hlevel props) (λ S. S.1.stage_is j a b);
+    below-is = λ i b. table_at (stage_below (net_in w)) i (omega (arith, A.few-nodes));
+    stage-long = ∥∥₁_elim t (Prim.hlevel props) (λ S. S.1.stage-long);
+    below-long = table-long (stage_below (net_in w));
+  }
+
+  pub wires_staged : {below : List ℕ} → ∥ ((stage : List ℕ) × Staged (net_in w) stage below) ∥₁ → Staged (net_in w) (stage_table (net_in w)) below
+  unfolding stage_table
+  wires_staged t = record {
+    stage_is = λ j a b. table_at (stage_of (net_in w)) j (omega (arith, A.few-nodes));
+    below-is = λ i b. ∥∥₁_elim t (Prim.hlevel props) (λ S. S.1.below-is i b);
+    stage-long = table-long (stage_of (net_in w));
+    below-long = ∥∥₁_elim t (Prim.hlevel props) (λ S. S.1.below-long);
+  }
+
+-- So a net with both tables is one with each.
+pub with_edges : {n : Net} {stage below : List ℕ} → ∥ Staged n stage below ∥₁ → ∥ ((below : List ℕ) × Staged n stage below) ∥₁
+with_edges {n} {stage} {below} t = ∣ (below, staged_of t) ∣₁
+
+pub with_wires : {n : Net} {stage below : List ℕ} → ∥ Staged n stage below ∥₁ → ∥ ((stage : List ℕ) × Staged n stage below) ∥₁
+with_wires {n} {stage} {below} t = ∣ (stage, staged_of t) ∣₁
 
 -- the pass before node j, count buffers passed
 pub record Passing (n : Net) (stage below : List ℕ) (j count : ℕ) : Type 0 where

@@ -12,7 +12,7 @@ mod staged;
 
 use reader::buffer_bit;
 use rules::Kind;
-pub use staged::StagedNet;
+pub use staged::{EdgeStages, StagedNet, WireStages};
 use words::{Net, node_in};
 
 // What drives the wire below a node: the gate of a root, or the wire above.

@@ -9,7 +9,7 @@ use loads::{NODE_ROWS, loads};
 use reader::read;
 use std::io;
 use streams::read_full;
-use tree::{StagedNet, stages};
+use tree::{StagedNet, WireStages, stages};
 use words::{Net, WORDS};
 
 // Prints the line of stage t: its number of edges, and the loads at its root, one on each layer.
@@ -52,7 +52,11 @@ fn print_walk(rt: &impl Print, net: &Net<'_>) -> io::Result<()> {
     };
     let first = [0u8; rules::MAX_STAGES];
     let mut load = [0u32; NODE_ROWS * rules::MAX_LAYERS];
-    let edges = loads(&staged, &first, net.layers, &mut load);
+    let wires = WireStages {
+        net: *net,
+        below: &below,
+    };
+    let edges = loads(&wires, &first, net.layers, &mut load);
     print_stages(rt, &staged, &edges, &load)
 }
 

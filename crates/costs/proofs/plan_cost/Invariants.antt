@@ -6,4 +6,4 @@ use Rattle.costs.specs.Priced.{cost_to, cost_under}
 use Rattle.costs.proofs.plan_cost.Given as goal
 
 abbrev pub invariant-loop-j : goal.invariant-loop-j
-invariant-loop-j l = (1 ≤ l.j) × (l.j ≤ l.staged.net.nodes + 1) × (l.total ≡ cost_to (cost_under (net_in l.staged.net.words.now) l.plan) (l.j - 1))
+invariant-loop-j l = (1 ≤ l.j) × (l.j ≤ l.edges.net.nodes + 1) × (l.total ≡ cost_to (cost_under (net_in l.edges.net.words.now) l.plan) (l.j - 1))

@@ -4,4 +4,4 @@ use Rattle.costs.specs.Pricing.{Pricing}
 use Rattle.costs.proofs.stage_costs.Given as goal
 
 abbrev pub invariant-loop-j : goal.invariant-loop-j
-invariant-loop-j l = Pricing (net_in l.staged.net.words.now) l.costs l.j
+invariant-loop-j l = Pricing (net_in l.edges.net.words.now) l.costs l.j

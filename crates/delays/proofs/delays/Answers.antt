@@ -12,7 +12,7 @@ use Rattle.words.specs.Held.{Held, record_of, held-accepted}
 use Rattle.words.specs.Net.{held}
 use Rattle.tree.specs.declared.Gate.{Gate}
 use Rattle.tree.specs.Gates.{gate_of}
-use Rattle.tree.specs.Staged.{Staged, staged_of}
+use Rattle.tree.specs.Staged.{Staged, wires_staged}
 use Rattle.loads.specs.Columns.{Columns, Staging, staging}
 use Rattle.loads.specs.Loaded.{Loaded}
 use Rattle.delays.specs.Delayed.{Delaying, DelayTurn, delay-turn, delaying_end, paid-is, none-paid}
@@ -34,26 +34,26 @@ delay-here H S C T D h q e g =
     let t = turn H S C D h in
     delay-turn (held-accepted H) T t D (omega (arith, H.nodes-are)) (t.layer-is (rw q at e)) (rw q at g)
 
-pub bounds-first-staged : goal.bounds-first-staged
-bounds-first-staged c =
+pub bounds-first-wires : goal.bounds-first-wires
+bounds-first-wires c =
     let s = c.requires in
-    let t = turn (held c.args.staged.now.net.held) (staged_of c.args.staged.now.staged) s.0 c.loop-j.invariant.0 (omega arith) in
+    let t = turn (held c.args.wires.now.net.held) (wires_staged c.args.wires.now.net.held c.args.wires.now.staged) s.0 c.loop-j.invariant.0 (omega arith) in
     rw c.node-node.ensures (t.first_in _ (omega (arith, t.parent-lower)))
 
 pub set_delays-requires : goal.set_delays-requires
 set_delays-requires c =
     let s = c.requires in
-    let H = held c.args.staged.now.net.held in
+    let H = held c.args.wires.now.net.held in
     let e = rw c.node-node.ensures at c.from-layer.ensures in
-    let t = turn H (staged_of c.args.staged.now.staged) s.0 c.loop-j.invariant.0 (omega arith) in
-    let d = delay-here H (staged_of c.args.staged.now.staged) s.0 s.1 c.loop-j.invariant.0 (omega arith) c.node-node.ensures c.from-layer.ensures c.gate_at-gate.ensures in
+    let t = turn H (wires_staged c.args.wires.now.net.held c.args.wires.now.staged) s.0 c.loop-j.invariant.0 (omega arith) in
+    let d = delay-here H (wires_staged c.args.wires.now.net.held c.args.wires.now.staged) s.0 s.1 c.loop-j.invariant.0 (omega arith) c.node-node.ensures c.from-layer.ensures c.gate_at-gate.ensures in
     rw c.node-node.ensures
     (omega (arith, H.layers-are, t.layer_in_lem e), d.gate_in, d.parent_row, d.upper-row, d.parent-lower, d.own_row, d.edge)
 
 pub add_vias-requires : goal.add_vias-requires
 add_vias-requires c =
     let s = c.requires in
-    let d = delay-here (held c.args.staged.now.net.held) (staged_of c.args.staged.now.staged) s.0 s.1 c.loop-j.invariant.0 (omega arith)
+    let d = delay-here (held c.args.wires.now.net.held) (wires_staged c.args.wires.now.net.held c.args.wires.now.staged) s.0 s.1 c.loop-j.invariant.0 (omega arith)
     c.node-node.ensures c.from-layer.ensures c.gate_at-gate.ensures in
     let pin = rw c.node-node.ensures at c.paid_cap-pin.ensures in
     d.via (rw c.node-node.ensures at c.set_delays.ensures) (paid-is c.has_vias-vias.result pin c.if-pin-gt0.true)
@@ -61,7 +61,7 @@ add_vias-requires c =
 pub loop-j-preserved : goal.loop-j-preserved
 loop-j-preserved c =
     let s = c.requires in
-    let d = delay-here (held c.args.staged.now.net.held) (staged_of c.args.staged.now.staged) s.0 s.1 c.loop-j.invariant.0 (omega arith)
+    let d = delay-here (held c.args.wires.now.net.held) (wires_staged c.args.wires.now.net.held c.args.wires.now.staged) s.0 s.1 c.loop-j.invariant.0 (omega arith)
     c.node-node.ensures c.from-layer.ensures c.gate_at-gate.ensures in
     let F = rw c.node-node.ensures at c.set_delays.ensures in
     let vias = c.has_vias-vias.result in
@@ -73,17 +73,17 @@ loop-j-preserved c =
     ]
 
 pub returns : goal.returns
-returns c = delaying_end c.loop-j.invariant.0 (omega (arith, (held c.args.staged.now.net.held).nodes-are, c.loop-j-test.false))
+returns c = delaying_end c.loop-j.invariant.0 (omega (arith, (held c.args.wires.now.net.held).nodes-are, c.loop-j-test.false))
 
 pub returns-after-pin-gt0 : goal.returns-after-pin-gt0
 returns-after-pin-gt0 c =
     let s = c.requires in
-    let d = delay-here (held c.args.staged.now.net.held) (staged_of c.args.staged.now.staged) s.0 s.1 c.loop-j.invariant.0 (omega arith)
+    let d = delay-here (held c.args.wires.now.net.held) (wires_staged c.args.wires.now.net.held c.args.wires.now.staged) s.0 s.1 c.loop-j.invariant.0 (omega arith)
     c.node-node.ensures c.from-layer.ensures c.gate_at-gate.ensures in
     let F = rw c.node-node.ensures at c.set_delays.ensures in
     let vias = c.has_vias-vias.result in
     let pin = rw c.node-node.ensures at c.paid_cap-pin.ensures in
-    let last : length (net_in c.args.staged.now.net.words.now).nodes < c.loop-j.j + 1 = omega (arith, (held c.args.staged.now.net.held).nodes-are) in
+    let last : length (net_in c.args.wires.now.net.words.now).nodes < c.loop-j.j + 1 = omega (arith, (held c.args.wires.now.net.held).nodes-are) in
     elim c.if-pin-gt0.branch [
       | then-pin-gt0 w ↦ rw w.delay-is (delaying_end (d.onward F (paid-is vias pin w.if-pin-gt0.true) w.add_vias.ensures) last)
       | else-pin-gt0 w ↦ rw w.delay-is (delaying_end (d.onward_bare F (λ m. none-paid _ _ _ vias pin w.if-pin-gt0.false c.has_vias-vias.ensures)) last)

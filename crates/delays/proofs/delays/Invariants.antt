@@ -7,4 +7,4 @@ use Rattle.delays.specs.Delayed.{Delaying}
 use Rattle.delays.proofs.delays.Given as goal
 
 abbrev pub invariant-loop-j : goal.invariant-loop-j
-invariant-loop-j l = Delaying (net_in l.staged.net.words.now) l.first l.columns l.delay l.j × (length l.delay ≡ length l.initial.delay)
+invariant-loop-j l = Delaying (net_in l.wires.net.words.now) l.first l.columns l.delay l.j × (length l.delay ≡ length l.initial.delay)

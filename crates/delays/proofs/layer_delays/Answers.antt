@@ -10,14 +10,14 @@ use Rattle.delays.proofs.layer_delays.Goals as goal
 
 pub loads-requires : goal.loads-requires
 loads-requires c =
-    let H = held c.args.staged.now.net.held in (
+    let H = held c.args.wires.now.net.held in (
       layer-columns H.accepted H.layers-are,
       unloaded_zeros _ ((max_nodes + 1) * max_layers) (omega (arith, H.accepted.few-layers, H.layers-are)),
     )
 
 pub delays-requires : goal.delays-requires
 delays-requires c =
-    let H = held c.args.staged.now.net.held in (
+    let H = held c.args.wires.now.net.held in (
       layer-columns H.accepted H.layers-are,
       c.loads.ensures.0,
       omega (arith, H.accepted.few-layers, H.layers-are, c.requires),

@@ -9,7 +9,7 @@ use Rattle.rules.specs.Tree.{at}
 use Rattle.words.specs.Words.{net_in}
 use Rattle.words.specs.Held.{Held, held-accepted}
 use Rattle.words.specs.Net.{held}
-use Rattle.tree.specs.Staged.{Staged, staged_of}
+use Rattle.tree.specs.Staged.{Staged, wires_staged}
 use Rattle.loads.specs.Columns.{Columns, Staging, staging}
 use Rattle.loads.specs.Loaded.{Loading, LoadTurn, load-turn, loading_start, loading_end}
 use Rattle.loads.specs.Counted.{count_fits, counting_start, counting_more, counted-each, counted-total}
@@ -17,7 +17,7 @@ use Rattle.loads.proofs.loads.Goals as goal
 
 pub loop-j-init : goal.loop-j-init
 loop-j-init c =
-    let H = held c.args.staged.now.net.held in
+    let H = held c.args.wires.now.net.held in
     (loading_start _ _ H.nodes-are c.requires.1, refl, counting_start _ H.nodes-are)
 
 -- The stages that a turn at node j looks up,
@@ -34,44 +34,44 @@ load-here H S C G h e = load-turn (held-accepted H) G h ((turn H S C G h).layer-
 pub bounds-first-stage : goal.bounds-first-stage
 bounds-first-stage c =
     let s = c.requires in
-    let t = turn (held c.args.staged.now.net.held) (staged_of c.args.staged.now.staged) s.0 c.loop-j.invariant.0 c.loop-j-test.true in
+    let t = turn (held c.args.wires.now.net.held) (wires_staged c.args.wires.now.net.held c.args.wires.now.staged) s.0 c.loop-j.invariant.0 c.loop-j-test.true in
     rw c.node-node.ensures (t.first_in _ (omega arith))
 
 pub add_loads-requires : goal.add_loads-requires
 add_loads-requires c =
     let s = c.requires in
     let e = rw c.node-node.ensures at c.from-layer.ensures in
-    let t = turn (held c.args.staged.now.net.held) (staged_of c.args.staged.now.staged) s.0 c.loop-j.invariant.0 c.loop-j-test.true in
-    let l = load-here (held c.args.staged.now.net.held) (staged_of c.args.staged.now.staged) s.0 c.loop-j.invariant.0 c.loop-j-test.true e in
-    rw c.node-node.ensures (omega (arith, (held c.args.staged.now.net.held).layers-are, t.layer_in_lem e), l.edge, l.parent_row, l.parent-lower)
+    let t = turn (held c.args.wires.now.net.held) (wires_staged c.args.wires.now.net.held c.args.wires.now.staged) s.0 c.loop-j.invariant.0 c.loop-j-test.true in
+    let l = load-here (held c.args.wires.now.net.held) (wires_staged c.args.wires.now.net.held c.args.wires.now.staged) s.0 c.loop-j.invariant.0 c.loop-j-test.true e in
+    rw c.node-node.ensures (omega (arith, (held c.args.wires.now.net.held).layers-are, t.layer_in_lem e), l.edge, l.parent_row, l.parent-lower)
 
 pub offset_bounds-edges-stage : goal.offset_bounds-edges-stage
 offset_bounds-edges-stage c =
     let s = c.requires in
-    let t = turn (held c.args.staged.now.net.held) (staged_of c.args.staged.now.staged) s.0 c.loop-j.invariant.0 c.loop-j-test.true in
-    rw c.node-node.ensures (omega (arith, t.each_in (at (net_in c.args.staged.now.net.words.now) c.loop-j.j).parent (omega arith)))
+    let t = turn (held c.args.wires.now.net.held) (wires_staged c.args.wires.now.net.held c.args.wires.now.staged) s.0 c.loop-j.invariant.0 c.loop-j-test.true in
+    rw c.node-node.ensures (omega (arith, t.each_in (at (net_in c.args.wires.now.net.words.now) c.loop-j.j).parent (omega arith)))
 
 pub bounds-edges-stage : goal.bounds-edges-stage
 bounds-edges-stage c =
     let s = c.requires in
-    let t = turn (held c.args.staged.now.net.held) (staged_of c.args.staged.now.staged) s.0 c.loop-j.invariant.0 c.loop-j-test.true in
+    let t = turn (held c.args.wires.now.net.held) (wires_staged c.args.wires.now.net.held c.args.wires.now.staged) s.0 c.loop-j.invariant.0 c.loop-j-test.true in
     rw c.node-node.ensures (t.each_in _ (omega arith))
 
 pub overflow_add-edges : goal.overflow_add-edges
-overflow_add-edges c = count_fits c.loop-j.invariant.2 (held-accepted (held c.args.staged.now.net.held)) _ (omega arith)
+overflow_add-edges c = count_fits c.loop-j.invariant.2 (held-accepted (held c.args.wires.now.net.held)) _ (omega arith)
 
 pub bounds-edges-stage-in-loop-j : goal.bounds-edges-stage-in-loop-j
 bounds-edges-stage-in-loop-j c =
     let s = c.requires in
-    let t = turn (held c.args.staged.now.net.held) (staged_of c.args.staged.now.staged) s.0 c.loop-j.invariant.0 c.loop-j-test.true in
+    let t = turn (held c.args.wires.now.net.held) (wires_staged c.args.wires.now.net.held c.args.wires.now.staged) s.0 c.loop-j.invariant.0 c.loop-j-test.true in
     rw c.node-node.ensures (t.each_in _ (omega arith))
 
 pub loop-j-preserved : goal.loop-j-preserved
 loop-j-preserved c =
     let s = c.requires in
     let e = rw c.node-node.ensures at c.from-layer.ensures in
-    let t = turn (held c.args.staged.now.net.held) (staged_of c.args.staged.now.staged) s.0 c.loop-j.invariant.0 c.loop-j-test.true in
-    let l = load-here (held c.args.staged.now.net.held) (staged_of c.args.staged.now.staged) s.0 c.loop-j.invariant.0 c.loop-j-test.true e in
+    let t = turn (held c.args.wires.now.net.held) (wires_staged c.args.wires.now.net.held c.args.wires.now.staged) s.0 c.loop-j.invariant.0 c.loop-j-test.true in
+    let l = load-here (held c.args.wires.now.net.held) (wires_staged c.args.wires.now.net.held c.args.wires.now.staged) s.0 c.loop-j.invariant.0 c.loop-j-test.true e in
     let F = rw c.node-node.ensures at c.add_loads.ensures in
     rw c.node-node.ensures (
       l.onward F,
@@ -81,7 +81,7 @@ loop-j-preserved c =
 
 pub returns : goal.returns
 returns c =
-    let H = held c.args.staged.now.net.held in
+    let H = held c.args.wires.now.net.held in
     let A = held-accepted H in
     let e : c.loop-j.j ≡ 0 = omega (arith, c.loop-j-test.false) in (
       loading_end A c.loop-j.invariant.0 e,

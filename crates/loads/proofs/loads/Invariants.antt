@@ -9,4 +9,4 @@ use Rattle.loads.proofs.loads.Given as goal
 
 abbrev pub invariant-loop-j : goal.invariant-loop-j
 invariant-loop-j l =
-    Loading (net_in l.staged.net.words.now) l.first l.columns l.load l.j × (length l.load ≡ length l.initial.load) × Counting (net_in l.staged.net.words.now) l.edges l.j
+    Loading (net_in l.wires.net.words.now) l.first l.columns l.load l.j × (length l.load ≡ length l.initial.load) × Counting (net_in l.wires.net.words.now) l.edges l.j

@@ -6,32 +6,32 @@ use Rattle.rules.specs.Tree.{is_terminal}
 use Rattle.words.specs.declared.Node.{Node}
 use Rattle.words.specs.Held.{held-accepted}
 use Rattle.words.specs.Net.{held}
-use Rattle.tree.specs.Staged.{staged_of}
+use Rattle.tree.specs.Staged.{edges_staged}
 use Rattle.required.proofs.Linking.{links-start, stage_in, links-skip, links-take}
 use Rattle.required.proofs.link_terminals.Goals as goal
 use Rattle.required.proofs.link_terminals.Goals.{then-is_terminal, else-is_terminal}
 
 pub loop-j-init : goal.loop-j-init
 loop-j-init c =
-    let H = held c.args.staged.now.net.held in
+    let H = held c.args.edges.now.net.held in
     links-start (held-accepted H) H.nodes-are c.requires.0 c.requires.1
 
 pub offset_bounds-first-t : goal.offset_bounds-first-t
-offset_bounds-first-t c = let own = stage_in c.args.staged.now.net.held (staged_of c.args.staged.now.staged) c.loop-j.invariant (omega arith) in omega arith
+offset_bounds-first-t c = let own = stage_in c.args.edges.now.net.held (edges_staged c.args.edges.now.net.held c.args.edges.now.staged) c.loop-j.invariant (omega arith) in omega arith
 
 pub bounds-first-t : goal.bounds-first-t
-bounds-first-t c = let own = stage_in c.args.staged.now.net.held (staged_of c.args.staged.now.staged) c.loop-j.invariant (omega arith) in omega arith
+bounds-first-t c = let own = stage_in c.args.edges.now.net.held (edges_staged c.args.edges.now.net.held c.args.edges.now.staged) c.loop-j.invariant (omega arith) in omega arith
 
 pub offset_bounds-first-t-then-is_terminal : goal.offset_bounds-first-t-then-is_terminal
-offset_bounds-first-t-then-is_terminal c = let own = stage_in c.args.staged.now.net.held (staged_of c.args.staged.now.staged) c.loop-j.invariant (omega arith) in omega arith
+offset_bounds-first-t-then-is_terminal c = let own = stage_in c.args.edges.now.net.held (edges_staged c.args.edges.now.net.held c.args.edges.now.staged) c.loop-j.invariant (omega arith) in omega arith
 
 pub bounds-first-t-then-is_terminal : goal.bounds-first-t-then-is_terminal
-bounds-first-t-then-is_terminal c = let own = stage_in c.args.staged.now.net.held (staged_of c.args.staged.now.staged) c.loop-j.invariant (omega arith) in omega arith
+bounds-first-t-then-is_terminal c = let own = stage_in c.args.edges.now.net.held (edges_staged c.args.edges.now.net.held c.args.edges.now.staged) c.loop-j.invariant (omega arith) in omega arith
 
 pub loop-j-preserved : goal.loop-j-preserved
 loop-j-preserved c =
-    let A = held-accepted (held c.args.staged.now.net.held) in
-    let S = staged_of c.args.staged.now.staged in
+    let A = held-accepted (held c.args.edges.now.net.held) in
+    let S = edges_staged c.args.edges.now.net.held c.args.edges.now.staged in
     let L = c.loop-j.invariant in
     let h : 0 < c.loop-j.j = omega arith in
     let k = c.is_terminal.ensures ∙ ap (λ (r : Node). is_terminal r.kind) c.node.ensures in

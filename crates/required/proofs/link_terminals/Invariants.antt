@@ -4,4 +4,4 @@ use Rattle.required.specs.Links.{TerminalsAfter}
 use Rattle.required.proofs.link_terminals.Given as goal
 
 abbrev pub invariant-loop-j : goal.invariant-loop-j
-invariant-loop-j l = TerminalsAfter (net_of l.staged.net) l.first l.next l.j
+invariant-loop-j l = TerminalsAfter (net_of l.edges.net) l.first l.next l.j

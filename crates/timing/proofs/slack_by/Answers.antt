@@ -10,7 +10,7 @@ use Rattle.rules.specs.Tree.{Net}
 use Rattle.rules.specs.Timing.{required}
 use Rattle.words.specs.Held.{held-accepted}
 use Rattle.words.specs.Net.{held, net_of}
-use Rattle.tree.specs.Staged.{Staged, staged_of}
+use Rattle.tree.specs.Staged.{Staged, staged_of, with_edges}
 use Rattle.tree.specs.Plans.{Fitting}
 use Rattle.delays.specs.Delayed.{PlanDelays}
 use Rattle.required.specs.Links.{TerminalsLinked}
@@ -46,3 +46,6 @@ returns c = λ plan F D.
     to_z-of_z (overflow_sub-result c) ∙
     rw (to_z-of_z (sfits_of {w = w64} c.stage_required-required.type_inv), to_z-of_z (sfits_of {w = w64} c.arrival-arrives.type_inv))
     (slack-is _ plan (time-is c plan F D) c.arrival-arrives.ensures)
+
+pub invariant_of-edges : goal.invariant_of-edges
+invariant_of-edges c = record { staged = with_edges c.args.staged.now.staged }
