@@ -85,12 +85,15 @@ pub fn node_in(words: &[u32], j: usize) -> Node
     Node { parent, len, kind }
 }
 
-// Three words from place i on.
+// Three words from place i on. Written one by one: copied from an array, they went to the stack and were loaded again from there, at each node that is read.
 fn put_three(words: &mut [u32], i: usize, a: u32, b: u32, c: u32)
     requires { i + 3 ≤ length words.old }
     ensures { Three words.old words.new i a b c }
 {
-    words[i..i + 3].copy_from_slice(&[a, b, c]);
+    let three = &mut words[i..i + 3];
+    three[0] = a;
+    three[1] = b;
+    three[2] = c;
 }
 
 // All of the node of this tag whose payload starts at `start` but its costs, into row j.
