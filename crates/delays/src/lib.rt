@@ -2,8 +2,9 @@
 // rows and columns: judging has one column, the plan's layer, and planning one for each layer.
 #![tactic(auto)]
 
-ghost use Rattle.std.specs.Prelude.{◌≡◌, false, ◌+◌, ◌*◌, ◌≤◌, ◌<◌, length, if◌then◌else◌};
+ghost use Rattle.std.specs.Prelude.{◌≡◌, false, ◌+◌, ◌*◌, ◌≤◌, ◌<◌, length, get_or, if◌then◌else◌};
 ghost use Rattle.rules.specs.Bytes.{max_via_res, max_gate_res, max_intrinsic, max_layers, max_nodes};
+ghost use Rattle.rules.specs.Tree.{stages};
 ghost use Rattle.facts.specs.Layers.{NoVias};
 ghost use Rattle.facts.specs.Ranges.{max_edge_res, max_edge_cap};
 ghost use Rattle.facts.specs.Loads.{max_load};
@@ -113,6 +114,14 @@ fn add_vias(net: &Net<'_>, columns: usize, layer: usize, pin: u64, j: usize, del
     }
 }
 
+// The first layer of the stage that the wire below node i is of: column 0 of that stage stands for it.
+fn first_layer(wires: &WireStages<'_>, first: &[u8], i: usize) -> usize
+    requires { (stages (net_of wires.now.net) ≤ length first.now) × (i ≤ wires.now.net.nodes) }
+    ensures { result ≡ get_or first.now (get_or wires.now.below.now i 0) 0 }
+{
+    usize::from(first[wires.below[i]])
+}
+
 // The delay from the gate input of its stage to each node in each column, from the first node to the last.
 fn delays(wires: &WireStages<'_>, first: &[u8], columns: usize, load: &[u32], delay: &mut [u64])
     requires { Columns (net_of wires.now.net) first.now columns × Loaded (net_of wires.now.net) first.now columns load.now ×
@@ -123,7 +132,7 @@ fn delays(wires: &WireStages<'_>, first: &[u8], columns: usize, load: &[u32], de
     for j in 1..=wires.net.nodes {
         let node = wires.net.node(j);
         let gate = gate_at(&wires.net, node.parent);
-        let layer = usize::from(first[wires.below[node.parent]]);
+        let layer = first_layer(wires, first, node.parent);
         let edge = Edge {
             node,
             j,

@@ -34,35 +34,34 @@ delay-here H S C T D h q e g =
     let t = turn H S C D h in
     delay-turn (held-accepted H) T t D (omega (arith, H.nodes-are)) (t.layer-is (rw q at e)) (rw q at g)
 
-pub bounds-first-wires : goal.bounds-first-wires
-bounds-first-wires c =
-    let s = c.requires in
-    let t = turn (held c.args.wires.now.net.held) (wires_staged c.args.wires.now.net.held c.args.wires.now.staged) s.0 c.loop-j.invariant.0 (omega arith) in
-    rw c.node-node.ensures (t.first_in _ (omega (arith, t.parent-lower)))
-
 pub set_delays-requires : goal.set_delays-requires
 set_delays-requires c =
     let s = c.requires in
     let H = held c.args.wires.now.net.held in
-    let e = rw c.node-node.ensures at c.from-layer.ensures in
+    let e = rw c.node-node.ensures at c.first_layer-layer.ensures in
     let t = turn H (wires_staged c.args.wires.now.net.held c.args.wires.now.staged) s.0 c.loop-j.invariant.0 (omega arith) in
-    let d = delay-here H (wires_staged c.args.wires.now.net.held c.args.wires.now.staged) s.0 s.1 c.loop-j.invariant.0 (omega arith) c.node-node.ensures c.from-layer.ensures c.gate_at-gate.ensures in
+    let d = delay-here H (wires_staged c.args.wires.now.net.held c.args.wires.now.staged) s.0 s.1 c.loop-j.invariant.0 (omega arith) c.node-node.ensures c.first_layer-layer.ensures c.gate_at-gate.ensures in
     rw c.node-node.ensures
     (omega (arith, H.layers-are, t.layer_in_lem e), d.gate_in, d.parent_row, d.upper-row, d.parent-lower, d.own_row, d.edge)
 
+-- The columns stand for layers that there are from the layer of the stage above j on, and from that of the stage of the wire below j: a wrong program that
+-- takes the second (must-fail/) is then refused for the delay that it gives and not for this.
 pub add_vias-requires : goal.add_vias-requires
 add_vias-requires c =
     let s = c.requires in
-    let d = delay-here (held c.args.wires.now.net.held) (wires_staged c.args.wires.now.net.held c.args.wires.now.staged) s.0 s.1 c.loop-j.invariant.0 (omega arith)
-    c.node-node.ensures c.from-layer.ensures c.gate_at-gate.ensures in
+    let H = held c.args.wires.now.net.held in
+    let t = turn H (wires_staged c.args.wires.now.net.held c.args.wires.now.staged) s.0 c.loop-j.invariant.0 (omega arith) in
+    let d = delay-here H (wires_staged c.args.wires.now.net.held c.args.wires.now.staged) s.0 s.1 c.loop-j.invariant.0 (omega arith)
+    c.node-node.ensures c.first_layer-layer.ensures c.gate_at-gate.ensures in
     let pin = rw c.node-node.ensures at c.paid_cap-pin.ensures in
-    d.via (rw c.node-node.ensures at c.set_delays.ensures) (paid-is c.has_vias-vias.result pin c.if-pin-gt0.true)
+    let v = d.via (rw c.node-node.ensures at c.set_delays.ensures) (paid-is c.has_vias-vias.result pin c.if-pin-gt0.true) in
+    record { pin_in = v.pin_in; row = v.row; columns_in = omega (arith, v.columns_in, t.columns_in c.loop-j.j (omega arith)) }
 
 pub loop-j-preserved : goal.loop-j-preserved
 loop-j-preserved c =
     let s = c.requires in
     let d = delay-here (held c.args.wires.now.net.held) (wires_staged c.args.wires.now.net.held c.args.wires.now.staged) s.0 s.1 c.loop-j.invariant.0 (omega arith)
-    c.node-node.ensures c.from-layer.ensures c.gate_at-gate.ensures in
+    c.node-node.ensures c.first_layer-layer.ensures c.gate_at-gate.ensures in
     let F = rw c.node-node.ensures at c.set_delays.ensures in
     let vias = c.has_vias-vias.result in
     let pin = rw c.node-node.ensures at c.paid_cap-pin.ensures in
@@ -79,7 +78,7 @@ pub returns-after-pin-gt0 : goal.returns-after-pin-gt0
 returns-after-pin-gt0 c =
     let s = c.requires in
     let d = delay-here (held c.args.wires.now.net.held) (wires_staged c.args.wires.now.net.held c.args.wires.now.staged) s.0 s.1 c.loop-j.invariant.0 (omega arith)
-    c.node-node.ensures c.from-layer.ensures c.gate_at-gate.ensures in
+    c.node-node.ensures c.first_layer-layer.ensures c.gate_at-gate.ensures in
     let F = rw c.node-node.ensures at c.set_delays.ensures in
     let vias = c.has_vias-vias.result in
     let pin = rw c.node-node.ensures at c.paid_cap-pin.ensures in

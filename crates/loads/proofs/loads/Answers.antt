@@ -1,13 +1,16 @@
 -- `loads` is right: before node j is taken each entry is what the children after j add, so j adds its whole load, and each count is that of the stage's edges
 -- after j, to which the edge to j is one more; in the end all children have added, and all edges are counted.
-use mathlib.Core.Path.{◌≡◌, refl, sym, ◌∙◌}
+use mathlib.Core.Path.{◌≡◌, refl, ap, sym, ◌∙◌}
+use mathlib.Core.Bool.{Bool, true, false}
 use mathlib.Core.List.{List}
 use Prim.Native.Nat.{ℕ, ◌≤◌}
 use native.Mathlib.Omega.{arith}
 use lib.ListN.{get_or}
+use mir.Val.{bool_byte}
 use Rattle.rules.specs.Tree.{at}
+use Rattle.words.specs.declared.Node.{Node}
 use Rattle.words.specs.Words.{net_in}
-use Rattle.words.specs.Held.{Held, held-accepted}
+use Rattle.words.specs.Held.{Held, record_of, held-accepted}
 use Rattle.words.specs.Net.{held}
 use Rattle.tree.specs.Staged.{Staged, wires_staged}
 use Rattle.loads.specs.Columns.{Columns, Staging, staging}
@@ -19,6 +22,10 @@ pub loop-j-init : goal.loop-j-init
 loop-j-init c =
     let H = held c.args.wires.now.net.held in
     (loading_start _ _ H.nodes-are c.requires.1, refl, counting_start _ H.nodes-are)
+
+-- The parent of a node that was looked up is the net's.
+parent-is : (w : List ℕ) (j : ℕ) {node : Node} → node ≡ record_of (at (net_in w) j) → node.parent ≡ (at (net_in w) j).parent
+parent-is w j q = ap (λ (r : Node). r.parent) q
 
 -- The stages that a turn at node j looks up,
 turn : {w stage below first load : List ℕ} {nodes layers columns j : ℕ} → Held w nodes layers → Staged (net_in w) stage below
@@ -45,26 +52,36 @@ add_loads-requires c =
     let l = load-here (held c.args.wires.now.net.held) (wires_staged c.args.wires.now.net.held c.args.wires.now.staged) s.0 c.loop-j.invariant.0 c.loop-j-test.true e in
     rw c.node-node.ensures (omega (arith, (held c.args.wires.now.net.held).layers-are, t.layer_in_lem e), l.edge, l.parent_row, l.parent-lower)
 
+-- What the counts are looked up by is in bounds as the stage of the wire below the parent, and below j itself: a wrong program that counts to the second
+-- (must-fail/) is then refused for its count and not for its index.
 pub offset_bounds-edges-stage : goal.offset_bounds-edges-stage
 offset_bounds-edges-stage c =
     let s = c.requires in
     let t = turn (held c.args.wires.now.net.held) (wires_staged c.args.wires.now.net.held c.args.wires.now.staged) s.0 c.loop-j.invariant.0 c.loop-j-test.true in
-    rw c.node-node.ensures (omega (arith, t.each_in (at (net_in c.args.wires.now.net.words.now) c.loop-j.j).parent (omega arith)))
+    let e = parent-is c.args.wires.now.net.words.now c.loop-j.j c.node-node.ensures in
+    omega (arith, t.each_in c.node-node.result.parent (omega (arith, e, t.parent-lower)), t.each_in c.loop-j.j (omega arith))
 
 pub bounds-edges-stage : goal.bounds-edges-stage
 bounds-edges-stage c =
     let s = c.requires in
     let t = turn (held c.args.wires.now.net.held) (wires_staged c.args.wires.now.net.held c.args.wires.now.staged) s.0 c.loop-j.invariant.0 c.loop-j-test.true in
-    rw c.node-node.ensures (t.each_in _ (omega arith))
+    let e = parent-is c.args.wires.now.net.words.now c.loop-j.j c.node-node.ensures in
+    omega (arith, t.each_in c.node-node.result.parent (omega (arith, e, t.parent-lower)), t.each_in c.loop-j.j (omega arith))
+
+-- A flag as a number is 1 at most. The walk itself adds 1; wrong programs that add a flag (must-fail/) are then refused for their count and not for its room.
+flag-low : (b : Bool) → bool_byte b ≤ 1
+flag-low true = omega arith
+flag-low false = omega arith
 
 pub overflow_add-edges : goal.overflow_add-edges
-overflow_add-edges c = count_fits c.loop-j.invariant.2 (held-accepted (held c.args.wires.now.net.held)) _ (omega arith)
+overflow_add-edges c = count_fits c.loop-j.invariant.2 (held-accepted (held c.args.wires.now.net.held)) _ (omega (arith, flag-low))
 
 pub bounds-edges-stage-in-loop-j : goal.bounds-edges-stage-in-loop-j
 bounds-edges-stage-in-loop-j c =
     let s = c.requires in
     let t = turn (held c.args.wires.now.net.held) (wires_staged c.args.wires.now.net.held c.args.wires.now.staged) s.0 c.loop-j.invariant.0 c.loop-j-test.true in
-    rw c.node-node.ensures (t.each_in _ (omega arith))
+    let e = parent-is c.args.wires.now.net.words.now c.loop-j.j c.node-node.ensures in
+    omega (arith, t.each_in c.node-node.result.parent (omega (arith, e, t.parent-lower)), t.each_in c.loop-j.j (omega arith))
 
 pub loop-j-preserved : goal.loop-j-preserved
 loop-j-preserved c =
@@ -73,10 +90,11 @@ loop-j-preserved c =
     let t = turn (held c.args.wires.now.net.held) (wires_staged c.args.wires.now.net.held c.args.wires.now.staged) s.0 c.loop-j.invariant.0 c.loop-j-test.true in
     let l = load-here (held c.args.wires.now.net.held) (wires_staged c.args.wires.now.net.held c.args.wires.now.staged) s.0 c.loop-j.invariant.0 c.loop-j-test.true e in
     let F = rw c.node-node.ensures at c.add_loads.ensures in
-    rw c.node-node.ensures (
+    let p = parent-is c.args.wires.now.net.words.now c.loop-j.j c.node-node.ensures in
+    let stage = ap (λ (i : ℕ). get_or c.args.wires.now.below.now i 0) p ∙ t.stage_is in (
       l.onward F,
       F.long ∙ c.loop-j.invariant.1,
-      counting_more c.loop-j.invariant.2 c.loop-j-test.true c.loop-j.invariant.0.inside t.stage_is (t.each_in _ (omega arith)),
+      counting_more c.loop-j.invariant.2 c.loop-j-test.true c.loop-j.invariant.0.inside stage (t.each_in _ (omega (arith, p, t.parent-lower))),
     )
 
 pub returns : goal.returns
