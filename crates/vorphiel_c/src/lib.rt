@@ -123,6 +123,8 @@ pub extern "C" fn vorphiel_report(block: &[u8]) -> Report
 // that the record can have: no call leads beyond it, whatever a host wrote there. The second says it in the words of the rules: whatever desk in mind the
 // record stands for, it then stands for the one that the rules say, and the answer is theirs. That the desk came from these calls enters there and nowhere
 // else. For every run of calls on a record that was cleared: `fresh-runs` (crates/desk/specs/Runs.antt).
+// Kept: each call that takes the lent record copies it into `v` first: the laws over the machine's code (crates/lent_desk/proofs: `ThinTwo`, `ThinOne`, `Seen`) speak
+// of bodies of this shape.
 
 // The size of the record, for hosts that cannot ask their compiler.
 #[unsafe(no_mangle)]
@@ -138,7 +140,8 @@ pub extern "C" fn vorphiel_desk_open(desk: &mut Desk, net: &[u8]) -> Checked
     ensures equation { record { desk = desk.new; answer = result } ≡ open_on desk.old net.now }
     ensures follows { Follows (to_open net.now) desk.old desk.new (counts_reply result) }
 {
-    let o = open_value(*desk, net);
+    let v = *desk;
+    let o = open_value(v, net);
     *desk = o.desk;
     o.answer
 }
@@ -149,7 +152,8 @@ pub extern "C" fn vorphiel_desk_set(desk: &mut Desk, stage: u64, layer: u64) -> 
     ensures equation { record { desk = desk.new; answer = result } ≡ set_on desk.old stage layer }
     ensures follows { Follows (to_set stage layer) desk.old desk.new (number_reply result) }
 {
-    let o = set_value(*desk, stage, layer);
+    let v = *desk;
+    let o = set_value(v, stage, layer);
     *desk = o.desk;
     o.answer
 }
@@ -160,7 +164,8 @@ pub extern "C" fn vorphiel_desk_lock(desk: &mut Desk, stage: u64) -> u8
     ensures equation { record { desk = desk.new; answer = result } ≡ lock_on desk.old stage }
     ensures follows { Follows (to_lock stage) desk.old desk.new (number_reply result) }
 {
-    let o = lock_value(*desk, stage);
+    let v = *desk;
+    let o = lock_value(v, stage);
     *desk = o.desk;
     o.answer
 }
@@ -171,7 +176,8 @@ pub extern "C" fn vorphiel_desk_unlock(desk: &mut Desk, stage: u64) -> u8
     ensures equation { record { desk = desk.new; answer = result } ≡ unlock_on desk.old stage }
     ensures follows { Follows (to_unlock stage) desk.old desk.new (number_reply result) }
 {
-    let o = unlock_value(*desk, stage);
+    let v = *desk;
+    let o = unlock_value(v, stage);
     *desk = o.desk;
     o.answer
 }
@@ -182,7 +188,8 @@ pub extern "C" fn vorphiel_desk_read(desk: &Desk) -> Judged
     ensures value { result ≡ read_on desk.now }
     ensures follows { Follows to_read desk.now desk.now (figures_reply result) }
 {
-    read_value(*desk)
+    let v = *desk;
+    read_value(v)
 }
 
 // The version for hosts in other languages.
