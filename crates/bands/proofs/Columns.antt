@@ -430,3 +430,29 @@ cut_some {table} {row} {top} {s} {n} {c} {early} {late = late} p E h e q G =
       band = λ asked hi f from-early to-late D. band_end asked hi (row_at table row) s top f (band-front asked hi (row_at table row) 0 top f D early from-early s F)
           late to-late n last low c H;
     })
+
+-- The column lies so at the start of the loop, in each half, and, where one place is left, is that place.
+module _ {A : ℕ → ℤ} {start end : ℕ} {t : ℤ} where
+  pub halving_start : start ≤ end → Halving A start end t start end
+  halving_start h = record { begun = omega arith; ordered = h; inside = omega arith; reaches = λ k. absurd (omega arith); before = λ w a e. absurd (omega arith) }
+
+  module _ {low high mid : ℕ} (here : Halving A start end t low high) (a : low ≤ mid) (b : mid < high) where
+    pub halving_left : le_z t (A mid) ≡ true → Halving A start end t low mid
+    halving_left e = record { begun = here.begun; ordered = a; inside = omega (arith, here.inside); reaches = λ h. e; before = here.before }
+
+    pub halving_right : le_z t (A mid) ≡ false → Halving A start end t (mid + 1) high
+    halving_right e = record {
+      begun = omega (arith, here.begun);
+      ordered = omega arith;
+      inside = here.inside;
+      reaches = here.reaches;
+      before = λ w k s. let same : w ≡ mid = omega arith in rw same e;
+    }
+
+  pub halving_end : {low high : ℕ} → Halving A start end t low high → high ≤ low → FirstIn A start end t low
+  halving_end {low} {high} here h = let meet : high ≡ low = omega (arith, here.ordered) in record {
+    low_in = here.begun;
+    top_in = omega (arith, here.inside, here.ordered);
+    reaches = λ k. rw meet at (here.reaches (omega arith));
+    before = here.before;
+  }

@@ -324,3 +324,9 @@ module _ {before : List ℤ} {driver first next delay : List ℕ} {limit : List 
               (M.band asked (λ t. g t + asked_of driver delay i l f t j) (λ t. f j (t +ℤ pos (on_layer delay j l))) (J.band asked below f g U E)
               (seen-band I asked below f O j J.above h (J.driven h) W)));
         })
+
+    -- The band that is merged lies within the table.
+    pub first_fits : start + s ≤ (stages + 2) * width
+    first_fits =
+        let two : 2 * width ≤ (stages + 2) * width = mul-le-mul_right width (omega arith) in
+        omega (arith, J.order, J.fits, J.asks.left-most, (J.asks.bands j J.above h).order, W.start_is)
