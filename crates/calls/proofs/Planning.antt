@@ -23,7 +23,7 @@ use Rattle.reader.specs.Net.{counts_of, counts, NetRead}
 use Rattle.reader.specs.declared.NetCounts.{NetCounts}
 use Rattle.reader.specs.Kept.{Kept}
 use Rattle.words.specs.Words.{net_in}
-use Rattle.planning.specs.Calls.{Share, kept-answer}
+use Rattle.planning.specs.Calls.{Share, Admitted, kept-answer}
 use Rattle.calls.specs.Admissions.{EarlyRefused, MayPlan}
 
 pub share_of : {p q : ℕ} → leb p max_share && within 1 max_share q ≡ true → Share p q
@@ -41,22 +41,26 @@ module _ (bs : List ℕ) (p q room : ℕ) where
       let low = (read-numbered bs).low (number_of why) e in
       early (λ entries. unread-refused bs p q entries room e) (omega arith)
 
-  module _ {w : List ℕ} {n : NetCounts} (K : Kept bs w n.nodes n.stages n.layers) where
+  module _ {w : List ℕ} {nodes layers s : ℕ} (K : Kept bs w nodes s layers) where
     pub plan_9 : leb p max_share && within 1 max_share q ≡ false → MayPlan bs p q room (Err refusal.WrongShare) w
     unfolding planned
     plan_9 t9 = early (λ entries. simp (K.holds, t9)) (omega arith)
 
     module _ (t9 : leb p max_share && within 1 max_share q ≡ true) where
-      plan_10 : room < n.stages → EarlyRefused bs p q room 10
+      pub plan_10 : room < s → EarlyRefused bs p q room 10
       unfolding planned
       plan_10 h =
           let t10 = lt-leb (stages (net_in w)) room (omega (arith, K.stages-are)) in
           early (λ entries. simp (K.holds, t9, t10)) (omega arith)
 
-      -- the last test, as `with_room` makes it
-      pub plan-roomy : (r : Result NetCounts Refusal)
-          → MatchResult r (λ m. (m ≡ n) × (n.stages ≤ room)) (λ why. (why ≡ refusal.NoRoom) × (room < n.stages)) → MayPlan bs p q room r w
-      plan-roomy r t =
-          MatchResult-weaker r t
-          (λ m h. rw h.0 (K.holds, record { held = K.held; stages-are = K.stages-are; share = share_of t9; room-enough = h.1 }))
-          (λ why h. rw h.0 (plan_10 h.1))
+      pub admitted : s ≤ room → Admitted w nodes layers s p q room
+      admitted h = record { held = K.held; stages-are = K.stages-are; share = share_of t9; room-enough = h }
+
+  module _ {w : List ℕ} {n : NetCounts} (K : Kept bs w n.nodes n.stages n.layers) (t9 : leb p max_share && within 1 max_share q ≡ true) where
+    -- the last test, as `with_room` makes it
+    pub plan-roomy : (r : Result NetCounts Refusal)
+        → MatchResult r (λ m. (m ≡ n) × (n.stages ≤ room)) (λ why. (why ≡ refusal.NoRoom) × (room < n.stages)) → MayPlan bs p q room r w
+    plan-roomy r t =
+        MatchResult-weaker r t
+        (λ m h. rw h.0 (K.holds, admitted K t9 h.1))
+        (λ why h. rw h.0 (plan_10 K t9 h.1))

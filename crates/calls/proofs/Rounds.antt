@@ -23,7 +23,7 @@ use Rattle.reader.specs.Net.{counts_of, counts, NetRead}
 use Rattle.reader.specs.declared.NetCounts.{NetCounts}
 use Rattle.reader.specs.Kept.{Kept}
 use Rattle.words.specs.Words.{net_in}
-use Rattle.rounds_planning.specs.Calls.{rounds-kept}
+use Rattle.rounds_planning.specs.Calls.{RoundsAdmitted, rounds-kept}
 use Rattle.calls.specs.Admissions.{EarlyRoundsRefused, MayRun}
 
 module _ (bs : List ℕ) (r room : ℕ) where
@@ -37,21 +37,26 @@ module _ (bs : List ℕ) (r room : ℕ) where
       let e = turned_refused (read bs) counts_of R.answer in
       before-rounds (λ entries. rounds-unread bs r entries room e) (λ d. omega (arith, (read-numbered bs).low (number_of why) e))
 
-  module _ {w : List ℕ} {n : NetCounts} (K : Kept bs w n.nodes n.stages n.layers) where
+  module _ {w : List ℕ} {nodes layers s : ℕ} (K : Kept bs w nodes s layers) where
     pub refused_14 : within 1 max_rounds r ≡ false → MayRun bs r room (Err refusal.WrongRounds) w
     refused_14 t14 = before-rounds (λ entries. rounds_14 bs r entries room K.holds t14) (λ d. omega arith)
 
     module _ (t14 : within 1 max_rounds r ≡ true) where
-      refused_10 : room < n.stages → EarlyRoundsRefused bs r room 10
+      pub refused_10 : room < s → EarlyRoundsRefused bs r room 10
       refused_10 h =
           let t10 = lt-leb (stages (net_in w)) room (omega (arith, K.stages-are)) in
           before-rounds (λ entries. rounds_10 bs r entries room K.holds t14 t10) (λ d. omega arith)
 
-      -- the last test, as `with_room` makes it
-      pub rounds-roomy : (found : Result NetCounts Refusal)
-          → MatchResult found (λ m. (m ≡ n) × (n.stages ≤ room)) (λ why. (why ≡ refusal.NoRoom) × (room < n.stages)) → MayRun bs r room found w
-      rounds-roomy found t =
+      pub admitted-by-rounds : s ≤ room → RoundsAdmitted w nodes layers s r room
+      admitted-by-rounds h =
           let (some_round, most) = within-true 1 max_rounds r t14 in
-          MatchResult-weaker found t
-          (λ m h. rw h.0 (K.holds, record { held = K.held; stages-are = K.stages-are; some_round = some_round; most-rounds = most; room-enough = h.1 }))
-          (λ why h. rw h.0 (refused_10 h.1))
+          record { held = K.held; stages-are = K.stages-are; some_round = some_round; most-rounds = most; room-enough = h }
+
+  module _ {w : List ℕ} {n : NetCounts} (K : Kept bs w n.nodes n.stages n.layers) (t14 : within 1 max_rounds r ≡ true) where
+    -- the last test, as `with_room` makes it
+    pub rounds-roomy : (found : Result NetCounts Refusal)
+        → MatchResult found (λ m. (m ≡ n) × (n.stages ≤ room)) (λ why. (why ≡ refusal.NoRoom) × (room < n.stages)) → MayRun bs r room found w
+    rounds-roomy found t =
+        MatchResult-weaker found t
+        (λ m h. rw h.0 (K.holds, admitted-by-rounds K t14 h.1))
+        (λ why h. rw h.0 (refused_10 K t14 h.1))
