@@ -123,8 +123,8 @@ pub extern "C" fn vorphiel_report(block: &[u8]) -> Report
 // that the record can have: no call leads beyond it, whatever a host wrote there. The second says it in the words of the rules: whatever desk in mind the
 // record stands for, it then stands for the one that the rules say, and the answer is theirs. That the desk came from these calls enters there and nowhere
 // else. For every run of calls on a record that was cleared: `fresh-runs` (crates/desk/specs/Runs.antt).
-// Kept: each call that takes the lent record copies it into `v` first: the laws over the machine's code (crates/lent_desk/proofs: `ThinTwo`, `ThinOne`, `Seen`) speak
-// of bodies of this shape.
+// Kept: each call that takes the lent record copies it into `v` first: the laws over the machine's code (crates/lent_desk/proofs: `ThinTwo`, `ThinOne`, `Seen`)
+// speak of bodies of this shape, of all but that of opening.
 
 // The size of the record, for hosts that cannot ask their compiler.
 #[unsafe(no_mangle)]
