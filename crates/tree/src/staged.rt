@@ -1,5 +1,5 @@
 // A net that was read with its stages, as the functions that time and plan it take it: the net and its two tables, which always belong together (`staged`,
-// specs/Staged.antt), so that a function that takes them need not ask for it. One that reads a single table takes the net with that, and asks for no other.
+// specs/Staged.antt), so that a function that takes them need not ask for it. A public one that reads a single table takes the net with that alone.
 
 ghost use Rattle.std.specs.Prelude.{List, ℕ};
 ghost use Rattle.words.specs.Words.{net_in};
